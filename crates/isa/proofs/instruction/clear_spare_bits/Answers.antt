@@ -1,0 +1,9 @@
+use mathlib.Core.Path.{_∙_, ap}
+use native.Mathlib.Omega.{arith}
+use Rattle.std.specs.declared.result.Result.the-variants.{Ok}
+use Rattle.isa.proofs.Words.{read-written}
+use Rattle.isa.proofs.instruction.clear_spare_bits.Needs as need
+
+pub returns : need.returns
+returns c =
+    ap Ok (c .encode .ensures .value) ∙ read-written (c .args .word) (c .in-Continue-decode .field-0) (omega arith) (c .in-Continue-decode .ensures tt)

@@ -1,0 +1,10 @@
+// A register's number, from 0 to 15.
+ghost use Prim.Native.Nat.{_<_};
+
+#[derive(Clone, Copy, PartialEq, Eq, Debug)]
+pub struct Register {
+    number: u8,
+    ghost small: { number < 16 },
+}
+
+pub mod numbers;
