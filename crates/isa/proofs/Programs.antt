@@ -50,3 +50,11 @@ refused-by ws i f false l h u e =
 pub first-refused : (ws : List ℕ) (i : ℕ) (f : WordFault) → i < length ws → Lawful-below ws i
     → Err (of-word f) ≡ word-checked i (getD ws i 0) → First-unlawful ws (f .place) (f .word)
 first-refused ws i f l h e = refused-by ws i f (lawful (getD ws i 0)) l h refl e
+
+accepted-by : (i w : ℕ) (u : Unit {0}) (b : Bool) → _≡_ {A = Result (Unit {0}) Declined} (Ok u) (cond b (Ok tt) (Err (unlawful-at i w))) → b ≡ true
+accepted-by i w u true e = refl
+accepted-by i w u false e = let z : _≡_ {A = ℕ} 0 1 = cc in let y : ⊥ = omega arith in absurd y
+
+-- a word that is not refused is lawful
+pub accepted : (i w : ℕ) (u : Unit {0}) → Ok u ≡ word-checked i w → lawful w ≡ true
+accepted i w u e = accepted-by i w u (lawful w) e

@@ -1,0 +1,5 @@
+pub mod Words
+pub mod Blocks
+pub mod Format
+pub mod Faults
+pub mod Opening

@@ -1,0 +1,6 @@
+// Images: a program, its data words and a depth as checked blocks of bytes.
+pub mod block;
+pub mod fault;
+pub mod image;
+pub mod layout;
+pub mod words;
