@@ -1,1 +1,4 @@
 pub mod Contents
+pub mod Bytes
+pub mod Format
+pub mod Written

@@ -1,5 +1,5 @@
 -- The format: what stands in each word of an image.
-use Prim.Native.Nat.{ℕ, zero, suc, _+_, _-_, _*_, _/_, _%_}
+use Prim.Native.Nat.{ℕ, _+_, _-_, _*_, _/_, _%_}
 use mathlib.Core.Bool.{cond}
 use mathlib.Core.List.{List, [], _∷_, map}
 use lib.Dec.{eqb, ltb}
@@ -21,27 +21,34 @@ blocks-for l s = 1 + pages l + pages s
 abbrev pub blocks-of : Contents → ℕ
 blocks-of c = blocks-for (length (c .program)) (length (c .words))
 
--- content word j of block b: block 0 holds the lengths and the depth, and unused content is 0
+-- word j of page p of some words, 126 to a page, 0 beyond the last
+abbrev pub page-word : List ℕ → ℕ → ℕ → ℕ
+page-word ws p j = getD ws (126 * p + j) 0
+
+-- content word j of block b: block 0 holds the two lengths and the depth, and unused content is 0
 abbrev pub content : Contents → ℕ → ℕ → ℕ
-content c zero j = getD (length (c .program) ∷ length (c .words) ∷ c .depth ∷ []) j 0
-content c (suc b) j =
-    cond (ltb b (pages (length (c .program))))
-    (getD (c .program) (126 * b + j) 0)
-    (getD (c .words) (126 * (b - pages (length (c .program))) + j) 0)
+content c b j =
+    cond (eqb b 0) (getD (length (c .program) ∷ length (c .words) ∷ c .depth ∷ []) j 0)
+    (cond (ltb (b - 1) (pages (length (c .program)))) (page-word (c .program) (b - 1) j)
+    (page-word (c .words) (b - 1 - pages (length (c .program))) j))
 
 -- word i of block b, but for the check
 abbrev pub unchecked-word : Contents → ℕ → ℕ → ℕ
-unchecked-word c b zero = b
-unchecked-word c b (suc j) = content c b j
+unchecked-word c b i = cond (eqb i 0) b (content c b (i - 1))
 
 -- word i of block b
-abbrev pub image-word : Contents → ℕ → ℕ → ℕ
+unfoldable pub image-word : Contents → ℕ → ℕ → ℕ
 image-word c b i = cond (eqb i 127) (check (unchecked-word c b)) (unchecked-word c b i)
 
--- the bytes of the image
-abbrev pub image-byte : Contents → ℕ → ℕ
-image-byte c k = byte-of (image-word c (k / 4 / 128) (k / 4 % 128)) (k % 4)
+-- word i of the image
+abbrev pub whole-word : Contents → ℕ → ℕ
+whole-word c i = image-word c (i / 128) (i % 128)
 
+-- byte k of the image
+abbrev pub image-byte : Contents → ℕ → ℕ
+image-byte c k = byte-of (whole-word c (k / 4)) (k % 4)
+
+-- the bytes of the image
 unfoldable pub image-of : Contents → List ℕ
 image-of c = map (image-byte c) (counting 0 (512 * blocks-of c))
 

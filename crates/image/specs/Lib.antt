@@ -3,3 +3,4 @@ pub mod Blocks
 pub mod Format
 pub mod Faults
 pub mod Opening
+pub mod Writing

@@ -1,7 +1,6 @@
 // Blocks: 128 words with a number and a check.
 ghost use mathlib.Core.Path.{_≡_};
-ghost use Prim.Native.Nat.{ℕ, _+_, _*_, _<_, _≤_};
-ghost use lib.ListN.{length};
+ghost use Prim.Native.Nat.{ℕ, _^_, _<_};
 ghost use Rattle.std.specs.Results.{Cases};
 ghost use Rattle.image.specs.Blocks.{check, block-word, block-count, Sound, All-sound};
 use crate::layout::BLOCK_BYTES;
@@ -16,7 +15,7 @@ pub struct BlockFault {
 
 // The check that a block ought to have.
 pub(crate) fn block_check(bytes: &[u8], block: usize) -> u32
-    requires { ⌜ 512 * block + 512 ≤ length (now bytes) ⌝ }
+    requires { ⌜ block < 2 ^ 55 ⌝ }
     ensures { λ r. ⌜ r ≡ check (block-word (now (bytes .entry)) block) ⌝ }
 {
     let mut sum = 0u32;
@@ -28,7 +27,7 @@ pub(crate) fn block_check(bytes: &[u8], block: usize) -> u32
 }
 
 fn check_block(bytes: &[u8], block: usize) -> Result<(), BlockFault>
-    requires { ⌜ 512 * block + 512 ≤ length (now bytes) ⌝ }
+    requires { ⌜ block < 2 ^ 55 ⌝ }
     ensures { λ r. ⌜ Cases r (λ _. Sound (now (bytes .entry)) block) (λ f. (f .block ≡ block) × (Sound (now (bytes .entry)) block → ⊥)) ⌝ }
 {
     let number = read_word(bytes, BLOCK_WORDS * block);

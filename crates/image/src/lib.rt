@@ -4,3 +4,4 @@ pub mod fault;
 pub mod image;
 pub mod layout;
 pub mod words;
+pub mod writing;

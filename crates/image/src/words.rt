@@ -4,23 +4,24 @@ ghost use Prim.Native.Nat.{ℕ, _+_, _*_, _^_, _<_, _≤_};
 ghost use lib.ListN.{length, getD};
 ghost use Rattle.image.specs.Words.{word-at, put-word};
 
-fn byte_at(bytes: &[u8], k: usize) -> u8
-    ensures { λ r. ⌜ r ≡ getD (now (bytes .entry)) k 0 ⌝ }
+// What stands at a place, or another value beyond the last.
+pub(crate) fn item_or<T: Copy>(items: &[T], place: usize, otherwise: T) -> T
+    ensures { λ r. ⌜ r ≡ getD (now (items .entry)) place otherwise ⌝ }
 {
-    if k < bytes.len() { bytes[k] } else { 0 }
+    if place < items.len() { items[place] } else { otherwise }
 }
 
 // The word with the number i.
 pub(crate) fn read_word(bytes: &[u8], i: usize) -> u32
-    requires { ⌜ i < 2 ^ 61 ⌝ }
+    requires { ⌜ i < 2 ^ 62 ⌝ }
     ensures { λ r. ⌜ r ≡ word-at (now (bytes .entry)) i ⌝ }
 {
     let at = 4 * i;
     u32::from_be_bytes([
-        byte_at(bytes, at),
-        byte_at(bytes, at + 1),
-        byte_at(bytes, at + 2),
-        byte_at(bytes, at + 3),
+        item_or(bytes, at, 0),
+        item_or(bytes, at + 1, 0),
+        item_or(bytes, at + 2, 0),
+        item_or(bytes, at + 3, 0),
     ])
 }
 

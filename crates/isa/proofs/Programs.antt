@@ -1,17 +1,21 @@
 -- The check of a program answers for its first unlawful word.
-use Prim.Native.Nat.{ℕ, zero, suc, _+_, _<_}
+use Prim.Native.Nat.{ℕ, zero, suc, _+_, _<_, _≤_}
 use mathlib.Core.Bool.{Bool, true, false, cond}
 use mathlib.Core.List.{List, [], _∷_}
 use mathlib.Core.Path.{_≡_, refl, ap, _∙_}
 use native.Mathlib.Omega.{arith}
+use borrow.Author.Tests.{ltb-true, ltb-false}
+use lib.Dec.{ltb}
 use lib.ListN.{length, getD}
 use Rattle.std.specs.declared.result.Result.{Result}
 use Rattle.std.specs.declared.result.Result.the-variants.{Ok, Err}
-use Rattle.refusal.specs.Refusals.{Declined}
+use Rattle.refusal.specs.Refusals.{Declined, refused}
 use Rattle.isa.specs.declared.fault.WordFault.{WordFault}
-use Rattle.isa.specs.Refusals.{of-word}
+use Rattle.isa.specs.declared.fault.ProgramFault.{ProgramFault}
+use Rattle.isa.specs.declared.fault.ProgramFault.the-variants.{TooLong, Word}
+use Rattle.isa.specs.Refusals.{of-word, of-program}
 use Rattle.isa.specs.Words.{lawful}
-use Rattle.isa.specs.Programs.{checked, checked-from, word-checked, unlawful-at, Lawful-below, Lawful-program, First-unlawful}
+use Rattle.isa.specs.Programs.{measured, checked, checked-from, word-checked, unlawful-at, Lawful-below, Lawful-program, First-unlawful}
 
 lawful-from : (i : ℕ) (ws : List ℕ) → Lawful-program ws → checked-from i ws ≡ Ok tt
 unfolding checked-from
@@ -58,3 +62,21 @@ accepted-by i w u false e = let z : _≡_ {A = ℕ} 0 1 = cc in let y : ⊥ = om
 -- a word that is not refused is lawful
 pub accepted : (i w : ℕ) (u : Unit {0}) → Ok u ≡ word-checked i w → lawful w ≡ true
 accepted i w u e = accepted-by i w u (lawful w) e
+
+refused-length : (ws : List ℕ) (f : ProgramFault) (b : Bool) → ltb 1024 (length ws) ≡ b
+    → _≡_ {A = Result (Unit {0}) Declined} (Err (of-program f)) (cond b (Err (refused 1 [])) (Ok tt)) → (f ≡ TooLong) × (1024 < length ws)
+refused-length ws TooLong true l e = (refl, ltb-true 1024 (length ws) l)
+refused-length ws (Word f) true l e = let z : _≡_ {A = ℕ} 3 1 = cc in let y : ⊥ = omega arith in absurd y
+refused-length ws f false l e = let z : _≡_ {A = ℕ} 0 1 = cc in let y : ⊥ = omega arith in absurd y
+
+-- a program whose length is refused is too long
+pub measured-refused : (ws : List ℕ) (f : ProgramFault) → Err (of-program f) ≡ measured ws → (f ≡ TooLong) × (1024 < length ws)
+measured-refused ws f e = refused-length ws f (ltb 1024 (length ws)) refl e
+
+accepted-length : (ws : List ℕ) (u : Unit {0}) (b : Bool) → ltb 1024 (length ws) ≡ b
+    → _≡_ {A = Result (Unit {0}) Declined} (Ok u) (cond b (Err (refused 1 [])) (Ok tt)) → length ws ≤ 1024
+accepted-length ws u true l e = let z : _≡_ {A = ℕ} 0 1 = cc in let y : ⊥ = omega arith in absurd y
+accepted-length ws u false l e = ltb-false 1024 (length ws) l
+
+pub measured-accepted : (ws : List ℕ) (u : Unit {0}) → Ok u ≡ measured ws → length ws ≤ 1024
+measured-accepted ws u e = accepted-length ws u (ltb 1024 (length ws)) refl e

@@ -1,11 +1,12 @@
 -- Writing an instruction and reading it back, and reading a word and writing it again.
 use Prim.Native.Nat.{ℕ, _+_, _*_, _/_, _%_, _^_, _<_}
 use mathlib.Core.List.{[], _∷_}
-use mathlib.Core.Path.{_≡_, refl, ap, _∙_}
+use mathlib.Core.Path.{_≡_, refl, sym, ap, _∙_}
 use native.Mathlib.Omega.{arith}
+use mathlib.Core.Bool.{true}
 use lib.Dec.{lit<}
 use borrow.Author.Needs.{needs}
-use Rattle.std.specs.Options.{okOr}
+use Rattle.std.specs.Options.{isSome, okOr}
 use Rattle.std.specs.declared.option.Option.{Option}
 use Rattle.std.specs.declared.option.Option.the-variants.{Some, None}
 use Rattle.std.specs.declared.result.Result.the-variants.{Ok}
@@ -17,7 +18,7 @@ use Rattle.isa.specs.declared.instruction.Instruction.the-variants.{Loadc, Loa
 use Rattle.isa.specs.declared.register.Register.{Register}
 use Rattle.isa.specs.Operations.{operation-at, operation-of, code-of}
 use Rattle.isa.specs.Registers.{register-at}
-use Rattle.isa.specs.Words.{decoded, encoded, cleared, read, recoded, packed, Fitting, kind, a-of, b-of, c-of}
+use Rattle.isa.specs.Words.{decoded, encoded, cleared, lawful, read, recoded, packed, Fitting, kind, a-of, b-of, c-of}
 use Rattle.isa.proofs.Registers.{same-register}
 
 a-packed : (k : ℕ) (a : Register) (b c n : ℕ) → b < 16 → c < 16 → n < 2 ^ 16 → a-of (packed k (a .number) b c n) ≡ a
@@ -116,6 +117,29 @@ some-read (Some j) d i e = cc
 some-read None d i e = let z : _≡_ {A = ℕ} 0 1 = cc in let f : ⊥ = omega arith in absurd f
 
 pub read-written : (w : ℕ) (i : Instruction) → w < 2 ^ 32 → Ok i ≡ read w → Ok (encoded i) ≡ recoded w
+unfolding lawful
 read-written w i h e =
     let p = some-read (decoded w) (refused 3 (w ∷ [])) i e in
     rw p (ap Ok (writes-again w i h p))
+
+pub cleared-small : (w : ℕ) → w < 2 ^ 32 → cleared w < 2 ^ 32
+cleared-small w h = search needs
+
+read-fits : (w : ℕ) (i : Instruction) → decoded w ≡ Some i → Fitting i
+read-fits w (Loadc a n) e = search needs
+read-fits w (Loadpc a) e = tt
+read-fits w (Op o a b c) e = tt
+read-fits w (Load a b) e = tt
+read-fits w (Store a b) e = tt
+read-fits w (Jz a b) e = tt
+
+cleared-by : (w : ℕ) (o : Option Instruction) → w < 2 ^ 32 → decoded w ≡ o → isSome o ≡ true → isSome (decoded (cleared w)) ≡ true
+cleared-by w (Some i) h e l =
+    let p : decoded (cleared w) ≡ Some i = ap decoded (sym (writes-again w i h e)) ∙ reads-back i (read-fits w i e) in
+    ap isSome p
+cleared-by w None h e l = let z : _≡_ {A = ℕ} 0 1 = cc in let f : ⊥ = omega arith in absurd f
+
+-- a lawful word stays lawful without its spare bits
+pub cleared-lawful : (w : ℕ) → w < 2 ^ 32 → lawful w ≡ true → lawful (cleared w) ≡ true
+unfolding lawful
+cleared-lawful w h l = cleared-by w (decoded w) h refl l

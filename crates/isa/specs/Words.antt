@@ -80,4 +80,4 @@ cleared w =
 
 -- reading a word and writing it again clears its spare bits, or gives refusal 3
 abbrev pub recoded : ℕ → Result ℕ Declined
-recoded w = cond (isSome (decoded w)) (Ok (cleared w)) (Err (refused 3 (w ∷ [])))
+recoded w = cond (lawful w) (Ok (cleared w)) (Err (refused 3 (w ∷ [])))
