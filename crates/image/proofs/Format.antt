@@ -129,12 +129,12 @@ pub laid-held : (c : Contents) (n : ℕ) (before s : List ℕ) → Small c → n
 laid-held c n before s small most h i l =
     read-bytes s i (whole-word c i) (word-small c small (i / 128) (i % 128) (omega arith)) (λ r m. byte r m)
   where
-  byte : (r : ℕ) → r < 4 → getD s (4 * i + r) 0 ≡ byte-of (whole-word c i) r
-  byte r m =
-      let p : (4 * i + r) / 4 ≡ i = omega arith in
-      let q : (4 * i + r) % 4 ≡ r = omega arith in
-      let t : ltb ((4 * i + r) / 4) n ≡ true = rw p (lt-ltb i n l) in
-      h (4 * i + r) ∙ rw t (rw (p, q))
+    byte : (r : ℕ) → r < 4 → getD s (4 * i + r) 0 ≡ byte-of (whole-word c i) r
+    byte r m =
+        let p : (4 * i + r) / 4 ≡ i = omega arith in
+        let q : (4 * i + r) % 4 ≡ r = omega arith in
+        let t : ltb ((4 * i + r) / 4) n ≡ true = rw p (lt-ltb i n l) in
+        h (4 * i + r) ∙ rw t (rw (p, q))
 
 pub given-small : (program words : List ℕ) (depth : ℕ) → ((k : ℕ) → getD program k 0 < 2 ^ 32) → ((k : ℕ) → getD words k 0 < 2 ^ 32)
     → length program < 2 ^ 32 → length words < 2 ^ 32 → depth < 2 ^ 32 → Small (given program words depth)
@@ -144,5 +144,5 @@ given-small program words depth p w lp lw d =
       words = w;
       program-length = rw (length-map program cleared) lp;
       words-length = lw;
-      depth = d
+      depth = d;
     }

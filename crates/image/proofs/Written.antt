@@ -35,9 +35,9 @@ byte-image c k h = getD-map-counting (image-byte c) 0 (512 * blocks-of c) k k 0 
 laid-image : (c : Contents) → Laid c (128 * blocks-of c) (image-of c) (image-of c)
 laid-image c k = on (ltb (k / 4) (128 * blocks-of c)) refl
   where
-  on : (t : Bool) → ltb (k / 4) (128 * blocks-of c) ≡ t → getD (image-of c) k 0 ≡ cond t (image-byte c k) (getD (image-of c) k 0)
-  on true e = let h : k / 4 < 128 * blocks-of c = search needs in byte-image c k (omega arith)
-  on false e = refl
+    on : (t : Bool) → ltb (k / 4) (128 * blocks-of c) ≡ t → getD (image-of c) k 0 ≡ cond t (image-byte c k) (getD (image-of c) k 0)
+    on true e = let h : k / 4 < 128 * blocks-of c = search needs in byte-image c k (omega arith)
+    on false e = refl
 
 -- an image, and the contents that fit one
 pub record Fit (c : Contents) : Type 0 where
@@ -64,7 +64,7 @@ module _ (c : Contents) (fit : Fit c) where
       let l : b < blocks-of c = omega arith in
       record {
         number = word-of b 0 l (lit< tt) ∙ first-at c b;
-        checked = word-of b 127 l (lit< tt) ∙ sym (check-held c b (128 * blocks-of c) (image-of c) held (omega arith))
+        checked = word-of b 127 l (lit< tt) ∙ sym (check-held c b (128 * blocks-of c) (image-of c) held (omega arith));
       }
 
   header : (j : ℕ) → j < 3 → word-at (image-of c) (j + 1) ≡ content c 0 j
@@ -95,7 +95,7 @@ module _ (c : Contents) (fit : Fit c) where
         small = rw size-held (fit .few);
         deep = rw depth-held (fit .deep);
         shallow = rw depth-held (fit .shallow);
-        blocks = rw (length-held, size-held) (length-image c)
+        blocks = rw (length-held, size-held) (length-image c);
       }
 
   paged : (b p : ℕ) → b + p / 126 < blocks-of c → word-from (image-of c) b p ≡ content c (b + p / 126) (p % 126)
@@ -115,7 +115,7 @@ module _ (c : Contents) (fit : Fit c) where
   data-word p h =
       let z : eqb (1 + pages (length (c .program)) + p / 126) 0 ≡ false = search needs in
       let t : ltb (1 + pages (length (c .program)) + p / 126 - 1) (pages (length (c .program))) ≡ false =
-          le-ltb (1 + pages (length (c .program)) + p / 126 - 1) (pages (length (c .program))) (omega arith) in
+      le-ltb (1 + pages (length (c .program)) + p / 126 - 1) (pages (length (c .program))) (omega arith) in
       let o : 1 + pages (length (c .program)) + p / 126 - 1 - pages (length (c .program)) ≡ p / 126 = omega arith in
       let q : 126 * (p / 126) + p % 126 ≡ p = omega arith in
       paged (1 + pages (length (c .program))) p (omega arith) ∙ rw (z, t, o, q)
@@ -145,25 +145,25 @@ laid-bytes c before s e l h =
     let m : length s ≡ length (image-of c ++ drop (512 * blocks-of c) before) = simp (length-append, length-drop) (omega arith) in
     ext-getD 0 s (image-of c ++ drop (512 * blocks-of c) before) m (λ k h′. here k)
   where
-  after-image : (k : ℕ) → 512 * blocks-of c ≤ k → getD (image-of c ++ drop (512 * blocks-of c) before) k 0 ≡ getD before k 0
-  after-image k g =
-      let q : 512 * blocks-of c + (k - 512 * blocks-of c) ≡ k = omega arith in
-      getD-append-right (image-of c) (drop (512 * blocks-of c) before) (512 * blocks-of c) k 0 (length-image c) g
-      ∙ getD-drop (512 * blocks-of c) before (k - 512 * blocks-of c) 0
-      ∙ ap (λ (j : ℕ). getD before j 0) q
+    after-image : (k : ℕ) → 512 * blocks-of c ≤ k → getD (image-of c ++ drop (512 * blocks-of c) before) k 0 ≡ getD before k 0
+    after-image k g =
+        let q : 512 * blocks-of c + (k - 512 * blocks-of c) ≡ k = omega arith in
+        getD-append-right (image-of c) (drop (512 * blocks-of c) before) (512 * blocks-of c) k 0 (length-image c) g
+        ∙ getD-drop (512 * blocks-of c) before (k - 512 * blocks-of c) 0
+        ∙ ap (λ (j : ℕ). getD before j 0) q
 
-  on : (k : ℕ) (t : Bool) → ltb (k / 4) (128 * blocks-of c) ≡ t
-      → cond t (image-byte c k) (getD before k 0) ≡ getD (image-of c ++ drop (512 * blocks-of c) before) k 0
-  on k true q =
-      let n = length-image c in
-      let f : k / 4 < 128 * blocks-of c = search needs in
-      sym (getD-append-left (image-of c) (drop (512 * blocks-of c) before) 0 k (omega arith) ∙ byte-image c k (omega arith))
-  on k false q =
-      let f : 128 * blocks-of c ≤ k / 4 = search needs in
-      sym (after-image k (omega arith))
+    on : (k : ℕ) (t : Bool) → ltb (k / 4) (128 * blocks-of c) ≡ t
+        → cond t (image-byte c k) (getD before k 0) ≡ getD (image-of c ++ drop (512 * blocks-of c) before) k 0
+    on k true q =
+        let n = length-image c in
+        let f : k / 4 < 128 * blocks-of c = search needs in
+        sym (getD-append-left (image-of c) (drop (512 * blocks-of c) before) 0 k (omega arith) ∙ byte-image c k (omega arith))
+    on k false q =
+        let f : 128 * blocks-of c ≤ k / 4 = search needs in
+        sym (after-image k (omega arith))
 
-  here : (k : ℕ) → getD s k 0 ≡ getD (image-of c ++ drop (512 * blocks-of c) before) k 0
-  here k = h k ∙ on k (ltb (k / 4) (128 * blocks-of c)) refl
+    here : (k : ℕ) → getD s k 0 ≡ getD (image-of c ++ drop (512 * blocks-of c) before) k 0
+    here k = h k ∙ on k (ltb (k / 4) (128 * blocks-of c)) refl
 
 given-lawful : (program : List ℕ) → ((k : ℕ) → getD program k 0 < 2 ^ 32) → Lawful-program program → Lawful-program (map cleared program)
 given-lawful program t h k l =
@@ -177,15 +177,15 @@ written-opens program words depth p w ok =
     image-opens (given program words depth)
     (record {
       small =
-        let a = ok .short in
-        let b = ok .small in
-        let d = ok .deep .1 in
-        given-small program words depth p w (omega arith) (omega arith) (omega arith);
+          let a = ok .short in
+          let b = ok .small in
+          let d = ok .deep .1 in
+          given-small program words depth p w (omega arith) (omega arith) (omega arith);
       short = rw (length-map program cleared) (ok .short);
       few = ok .small;
       deep = ok .deep .0;
       shallow = ok .deep .1;
-      lawful = given-lawful program p (ok .lawful)
+      lawful = given-lawful program p (ok .lawful);
     })
 
 -- how long an image of what was given is
@@ -209,5 +209,5 @@ module _ (program words : List ℕ) (depth n : ℕ) (before s : List ℕ) (ok : 
       let b : n ≡ blocks-of (given program words depth) = e ∙ sym (given-blocks program words depth) in
       let i : length (image-of (given program words depth)) ≡ 512 * n = length-image (given program words depth) ∙ ap (λ (j : ℕ). 512 * j) (sym b) in
       let t : take (512 * n) s ≡ image-of (given program words depth) =
-          ap (take (512 * n)) (written-bytes m h) ∙ take-at (image-of (given program words depth)) (drop (512 * n) before) (512 * n) i in
+      ap (take (512 * n)) (written-bytes m h) ∙ take-at (image-of (given program words depth)) (drop (512 * n) before) (512 * n) i in
       rw t (written-opens program words depth p w ok)

@@ -11,7 +11,7 @@ use Rattle.isa.specs.declared.fault.WordFault.{WordFault}
 use Rattle.isa.specs.declared.fault.ProgramFault.{ProgramFault}
 use Rattle.isa.specs.declared.fault.ProgramFault.the-variants.{TooLong, Word}
 use Rattle.isa.specs.Programs.{Lawful-program, First-unlawful, unlawful-at}
-use Rattle.image.specs.declared.image.Image.{Image}
+use Rattle.image.specs.declared.opening.Image.{Image}
 use Rattle.image.specs.declared.fault.ImageFault.{ImageFault}
 use Rattle.image.specs.Blocks.{Sound, All-sound, block-count}
 use Rattle.image.specs.Format.{Contents, blocks-for, length-in, size-in, depth-in, program-in, contents-in}

@@ -49,7 +49,7 @@ pub data Writing (program words : List ℕ) (depth space : ℕ) : Result ℕ Dec
   wrong-depth : length program ≤ 1024 → (Deep depth → ⊥) → Writing program words depth space (Err (refused 2 []))
   too-much-data : length program ≤ 1024 → Deep depth → 4096 < length words → Writing program words depth space (Err (refused 16 []))
   unlawful : (p w : ℕ) → length program ≤ 1024 → Deep depth → length words ≤ 4096 → First-unlawful program p w
-    → Writing program words depth space (Err (refused 3 (p ∷ [])))
+      → Writing program words depth space (Err (refused 3 (p ∷ [])))
   no-space : Writable program words depth → space < bytes-for program words → Writing program words depth space (Err (refused 17 []))
   written : Writable program words depth → bytes-for program words ≤ space → Writing program words depth space (Ok (bytes-for program words))
 

@@ -8,7 +8,11 @@ ghost use Rattle.image.specs.Words.{word-at, put-word};
 pub(crate) fn item_or<T: Copy>(items: &[T], place: usize, otherwise: T) -> T
     ensures { λ r. ⌜ r ≡ getD (now (items .entry)) place otherwise ⌝ }
 {
-    if place < items.len() { items[place] } else { otherwise }
+    if place < items.len() {
+        items[place]
+    } else {
+        otherwise
+    }
 }
 
 // The word with the number i.

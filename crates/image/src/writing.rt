@@ -25,9 +25,9 @@ use crate::words::item_or;
 use crate::words::write_word;
 use isa::fault::ProgramFault;
 use isa::fault::WordFault;
+use isa::instruction::clear_spare_bits;
 use isa::program::check_length;
 use isa::program::check_words;
-use isa::instruction::clear_spare_bits;
 use refusal::Refusal;
 
 // Why an image cannot be written.
@@ -100,7 +100,11 @@ fn program_word(program: &[u32], place: usize) -> u32
     requires { ⌜ Lawful-program (now program) ⌝ }
     ensures { λ r. ⌜ r ≡ getD (map cleared (now (program .entry))) place 0 ⌝ }
 {
-    if place < program.len() { cleared_word(program[place]) } else { 0 }
+    if place < program.len() {
+        cleared_word(program[place])
+    } else {
+        0
+    }
 }
 
 // Content word j of block 0.
@@ -178,7 +182,12 @@ fn check_contents(program: &[u32], words: &[u32], depth: u32) -> Result<(), Writ
 
 // Writes the image of a program, data words and a depth, and answers its length. Bytes beyond it stay; a refusal
 // changes none.
-pub fn write(program: &[u32], words: &[u32], depth: u32, bytes: &mut [u8]) -> Result<usize, WriteFault>
+pub fn write(
+    program: &[u32],
+    words: &[u32],
+    depth: u32,
+    bytes: &mut [u8],
+) -> Result<usize, WriteFault>
     ensures answer { λ r. ⌜ Writing (now (program .entry)) (now (words .entry)) depth (length (now (bytes .entry))) (told of-write r) ⌝ }
     ensures after { λ r. ⌜ now (bytes .exit) ≡ left-by r (given (now (program .entry)) (now (words .entry)) depth) (now (bytes .entry)) ⌝ }
     ensures opens { λ r. ⌜ made r (λ n. Opening (take n (now (bytes .exit))) (Ok (given (now (program .entry)) (now (words .entry)) depth))) ⌝ }

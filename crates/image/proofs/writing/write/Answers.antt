@@ -21,9 +21,9 @@ returns c =
       answer = written-answer program words (c .args .depth) (c .block-total-blocks .result) before s ok e l;
       after = written-bytes program words (c .args .depth) (c .block-total-blocks .result) before s ok e l (omega arith) (c .write-words .ensures);
       opens =
-        written-image program words (c .args .depth) (c .block-total-blocks .result) before s ok e l
-        (λ k. c .typed .program k .fits)
-        (λ k. c .typed .words k .fits)
-        (omega arith)
-        (c .write-words .ensures)
+          written-image program words (c .args .depth) (c .block-total-blocks .result) before s ok e l
+          (λ k. c .typed .program k .fits)
+          (λ k. c .typed .words k .fits)
+          (omega arith)
+          (c .write-words .ensures);
     }

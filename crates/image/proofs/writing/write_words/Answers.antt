@@ -11,11 +11,11 @@ next-word-word-requires c κs =
     record {
       contents = c .pre .contents;
       before =
-        laid-held (given (c .args .program .now) (c .args .words .now) (c .args .depth)) (c .loop-i .i) (c .args .bytes .now) (c .loop-i .bytes)
-        (given-small (c .args .program .now) (c .args .words .now) (c .args .depth) (λ k. c .typed .program k .fits) (λ k. c .typed .words k .fits) (omega arith) (omega arith) (omega arith))
-        (omega arith)
-        (c .loop-i .inv);
-      within = omega arith
+          laid-held (given (c .args .program .now) (c .args .words .now) (c .args .depth)) (c .loop-i .i) (c .args .bytes .now) (c .loop-i .bytes)
+          (given-small (c .args .program .now) (c .args .words .now) (c .args .depth) (λ k. c .typed .program k .fits) (λ k. c .typed .words k .fits) (omega arith) (omega arith) (omega arith))
+          (omega arith)
+          (c .loop-i .inv);
+      within = omega arith;
     }
 
 pub loop-i-again : need.loop-i-again

@@ -12,7 +12,7 @@ use Rattle.image.specs.Blocks.{All-sound}
 use Rattle.image.specs.Format.{program-in}
 use Rattle.image.specs.Faults.{of-image}
 use Rattle.image.specs.Opening.{Opening, Right-length, Right-counts, At-word, wrong-length, damaged, wrong-counts, unlawful, opened}
-use Rattle.image.proofs.image.opening.open.Needs as need
+use Rattle.image.proofs.opening.open.Needs as need
 
 pub returns-then-not-has-right-length : need.returns-then-not-has-right-length
 returns-then-not-has-right-length c =

@@ -12,7 +12,7 @@ use Rattle.isa.specs.Programs.{word-checked}
 use Rattle.isa.proofs.Programs.{accepted, first-refused}
 use Rattle.image.specs.Format.{program-in, length-in}
 use Rattle.image.proofs.Contents.{length-words, word-here}
-use Rattle.image.proofs.image.opening.check_program.Needs as need
+use Rattle.image.proofs.opening.check_program.Needs as need
 
 pub loop-place-again : need.loop-place-again
 loop-place-again c =
