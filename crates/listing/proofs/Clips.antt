@@ -21,15 +21,15 @@ pub clip-again : (xs ys : List ℕ) → clipped (clipped xs ++ ys) ≡ clipped (
 unfolding clipped
 clip-again xs ys = on (ltb 512 (length xs)) refl
   where
-  on : (b : Bool) → ltb 512 (length xs) ≡ b → take 512 (take 512 xs ++ ys) ≡ take 512 (xs ++ ys)
-  on true e =
-      let h = ltb-true 512 (length xs) e in
-      let l : 512 ≤ length xs = omega arith in
-      let n : length (take 512 xs) ≡ 512 = length-take-le 512 xs l in
-      let m : 512 ≤ length (take 512 xs) = omega arith in
-      let r : 512 ≤ 512 = omega arith in
-      take-append-le 512 (take 512 xs) ys m ∙ take-take 512 512 xs r ∙ sym (take-append-le 512 xs ys l)
-  on false e = ap (λ (zs : List ℕ). take 512 (zs ++ ys)) (take-all 512 xs (ltb-false 512 (length xs) e))
+    on : (b : Bool) → ltb 512 (length xs) ≡ b → take 512 (take 512 xs ++ ys) ≡ take 512 (xs ++ ys)
+    on true e =
+        let h = ltb-true 512 (length xs) e in
+        let l : 512 ≤ length xs = omega arith in
+        let n : length (take 512 xs) ≡ 512 = length-take-le 512 xs l in
+        let m : 512 ≤ length (take 512 xs) = omega arith in
+        let r : 512 ≤ 512 = omega arith in
+        take-append-le 512 (take 512 xs) ys m ∙ take-take 512 512 xs r ∙ sym (take-append-le 512 xs ys l)
+    on false e = ap (λ (zs : List ℕ). take 512 (zs ++ ys)) (take-all 512 xs (ltb-false 512 (length xs) e))
 
 -- one byte more, with room and without
 pub push-room : (bytes : List ℕ) (len b : ℕ) → length bytes ≡ 512 → len < 512 → take (len + 1) (set bytes len b) ≡ clipped (take len bytes ++ b ∷ [])

@@ -1,3 +1,3 @@
 // What the workbench prints, as bytes.
-pub mod text;
 pub mod lines;
+pub mod text;

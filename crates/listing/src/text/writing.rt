@@ -9,7 +9,10 @@ impl Text {
     pub fn new() -> Text
         ensures { λ r. ⌜ text-of r ≡ [] ⌝ }
     {
-        Text { bytes: [0; 512], len: 0 }
+        Text {
+            bytes: [0; 512],
+            len: 0,
+        }
     }
 
     pub fn push(&mut self, byte: u8)
