@@ -29,17 +29,17 @@ target-of (Load a b) = Some a
 target-of (Store a b) = None
 target-of (Jz a b) = None
 
-abbrev pub reads : Option Register → Option Register → Operands
-reads x y = record { first = x; second = y }
+abbrev pub both : Option Register → Option Register → Operands
+both x y = record { first = x; second = y }
 
 -- the registers that it reads, in the order a, b, c
 abbrev pub operands-of : Instruction → Operands
-operands-of (Loadc a n) = reads None None
-operands-of (Loadpc a) = reads None None
-operands-of (Op o a b c) = reads (Some b) (Some c)
-operands-of (Load a b) = reads (Some b) None
-operands-of (Store a b) = reads (Some a) (Some b)
-operands-of (Jz a b) = reads (Some a) (Some b)
+operands-of (Loadc a n) = both None None
+operands-of (Loadpc a) = both None None
+operands-of (Op o a b c) = both (Some b) (Some c)
+operands-of (Load a b) = both (Some b) None
+operands-of (Store a b) = both (Some a) (Some b)
+operands-of (Jz a b) = both (Some a) (Some b)
 
 -- the address after an address
 abbrev pub following : ℕ → ℕ

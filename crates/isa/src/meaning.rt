@@ -4,7 +4,7 @@ ghost use mathlib.Core.Path.{_≡_};
 ghost use mathlib.Core.Bool.{false};
 ghost use Prim.Native.Nat.{ℕ};
 ghost use Rattle.std.specs.declared.option.Option.the-variants.{Some, None};
-ghost use Rattle.isa.specs.Meanings.{is-jump, target-of, operands-of, following, early-value, executed-value, next-address, access-of};
+ghost use Rattle.isa.specs.Meanings.{is-jump, target-of, both, operands-of, following, early-value, executed-value, next-address, access-of};
 use crate::instruction::Instruction;
 use crate::register::Register;
 use crate::register::RegisterDebug;
@@ -25,6 +25,12 @@ pub enum Access {
     Read(u32),
     // at an address writes a word
     Write(u32, u32),
+}
+
+fn reads(first: Option<Register>, second: Option<Register>) -> Operands
+    ensures { λ r. ⌜ r ≡ both first second ⌝ }
+{
+    Operands { first, second }
 }
 
 impl Instruction {
@@ -52,30 +58,12 @@ impl Instruction {
         ensures { λ r. ⌜ r ≡ operands-of self ⌝ }
     {
         match self {
-            Instruction::Loadc(_, _) => Operands {
-                first: None,
-                second: None,
-            },
-            Instruction::Loadpc(_) => Operands {
-                first: None,
-                second: None,
-            },
-            Instruction::Op(_, _, b, c) => Operands {
-                first: Some(b),
-                second: Some(c),
-            },
-            Instruction::Load(_, b) => Operands {
-                first: Some(b),
-                second: None,
-            },
-            Instruction::Store(a, b) => Operands {
-                first: Some(a),
-                second: Some(b),
-            },
-            Instruction::Jz(a, b) => Operands {
-                first: Some(a),
-                second: Some(b),
-            },
+            Instruction::Loadc(_, _) => reads(None, None),
+            Instruction::Loadpc(_) => reads(None, None),
+            Instruction::Op(_, _, b, c) => reads(Some(b), Some(c)),
+            Instruction::Load(_, b) => reads(Some(b), None),
+            Instruction::Store(a, b) => reads(Some(a), Some(b)),
+            Instruction::Jz(a, b) => reads(Some(a), Some(b)),
         }
     }
 
