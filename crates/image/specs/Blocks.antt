@@ -27,9 +27,11 @@ pub record Sound (bytes : List ℕ) (b : ℕ) : Type 0 where
 abbrev pub block-count : List ℕ → ℕ
 block-count bytes = length bytes / 512
 
+-- the first n blocks are sound
 abbrev pub Sound-below : List ℕ → ℕ → Type 0
 Sound-below bytes n = (b : ℕ) → b < n → Sound bytes b
 
+-- every block is sound
 abbrev pub All-sound : List ℕ → Type 0
 All-sound bytes = Sound-below bytes (block-count bytes)
 

@@ -18,6 +18,7 @@ pub record Contents : Type 0 where
 abbrev pub blocks-for : ℕ → ℕ → ℕ
 blocks-for l s = 1 + pages l + pages s
 
+-- how many blocks an image of these contents has
 abbrev pub blocks-of : Contents → ℕ
 blocks-of c = blocks-for (length (c .program)) (length (c .words))
 
@@ -52,7 +53,7 @@ image-byte c k = byte-of (whole-word c (k / 4)) (k % 4)
 unfoldable pub image-of : Contents → List ℕ
 image-of c = map (image-byte c) (counting 0 (512 * blocks-of c))
 
--- what bytes hold, read as an image
+-- what bytes hold, read as an image: the program's length, the number of data words, the depth
 abbrev pub length-in : List ℕ → ℕ
 length-in bytes = word-at bytes 1
 
@@ -66,6 +67,7 @@ depth-in bytes = word-at bytes 3
 abbrev pub word-from : List ℕ → ℕ → ℕ → ℕ
 word-from bytes b p = word-at bytes (place-from b p)
 
+-- the first n of those
 abbrev pub words-from : List ℕ → ℕ → ℕ → List ℕ
 words-from bytes b n = map (word-from bytes b) (counting 0 n)
 
@@ -73,6 +75,7 @@ words-from bytes b n = map (word-from bytes b) (counting 0 n)
 abbrev pub data-block : List ℕ → ℕ
 data-block bytes = 1 + pages (length-in bytes)
 
+-- the program, the data words, and all together
 abbrev pub program-in : List ℕ → List ℕ
 program-in bytes = words-from bytes 1 (length-in bytes)
 

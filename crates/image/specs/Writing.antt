@@ -30,6 +30,7 @@ abbrev pub write-fault : ProgramFault → WriteFault
 write-fault TooLong = ProgramTooLong
 write-fault (Word f) = Unlawful (f .place)
 
+-- a depth that an image can have
 abbrev pub Deep : ℕ → Type 0
 Deep d = (1 ≤ d) × (d ≤ 8)
 
@@ -40,6 +41,7 @@ pub record Writable (program words : List ℕ) (depth : ℕ) : Type 0 where
   pub small : length words ≤ 4096
   pub lawful : Lawful-program program
 
+-- how many bytes the image takes
 abbrev pub bytes-for : List ℕ → List ℕ → ℕ
 bytes-for program words = 512 * blocks-for (length program) (length words)
 

@@ -12,6 +12,7 @@ use Rattle.isa.specs.declared.meaning.Access.{Access}
 use Rattle.isa.specs.declared.meaning.Access.the-variants.{Nothing, Read, Write}
 use Rattle.isa.specs.Operations.{applied}
 
+-- only Jz is a jump
 abbrev pub is-jump : Instruction → Bool
 is-jump (Loadc a n) = false
 is-jump (Loadpc a) = false
@@ -29,6 +30,7 @@ target-of (Load a b) = Some a
 target-of (Store a b) = None
 target-of (Jz a b) = None
 
+-- a first and a second operand
 abbrev pub both : Option Register → Option Register → Operands
 both x y = record { first = x; second = y }
 

@@ -8,6 +8,7 @@ use lib.Signed.{ltZ}
 use Rattle.isa.specs.declared.operation.Operation.{Operation}
 use Rattle.isa.specs.declared.operation.Operation.the-variants.{Add, Sub, And, Or, Xor, ShiftLeft, ShiftRight, Less}
 
+-- the code of an operation
 abbrev pub code-of : Operation → ℕ
 code-of Add = 0
 code-of Sub = 1
@@ -18,6 +19,7 @@ code-of ShiftLeft = 5
 code-of ShiftRight = 6
 code-of Less = 7
 
+-- the operation of a code below 8
 abbrev pub operation-of : ℕ → Operation
 operation-of n =
     cond (eqb n 0) Add
@@ -36,7 +38,7 @@ operation-at n = operation-of (n % 8)
 abbrev pub signed : ℕ → ℤ
 signed w = cond (ltb w (2 ^ 31)) (pos w) (pos w -ℤ pos (2 ^ 32))
 
--- a power of two behind its own clause, so that no large one is worked out where the count is refused
+-- shifts by a count that was found to be below 32, or not; each in its own clause, so that no large power of two is worked out
 abbrev pub shifted-left : Bool → ℕ → ℕ → ℕ
 shifted-left true b c = b * 2 ^ c % 2 ^ 32
 shifted-left false b c = 0
@@ -45,6 +47,7 @@ abbrev pub shifted-right : Bool → ℕ → ℕ → ℕ
 shifted-right true b c = b / 2 ^ c
 shifted-right false b c = 0
 
+-- what an operation makes of the words b and c
 abbrev pub applied : Operation → ℕ → ℕ → ℕ
 applied Add b c = (b + c) % 2 ^ 32
 applied Sub b c = (b + 2 ^ 32 - c) % 2 ^ 32

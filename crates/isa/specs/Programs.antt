@@ -20,6 +20,7 @@ measured ws = cond (ltb 1024 (length ws)) (Err (refused 1 [])) (Ok tt)
 abbrev pub unlawful-at : ℕ → ℕ → Declined
 unlawful-at place w = refused 3 (place ∷ w ∷ [])
 
+-- one word at its place: accepted, or refused
 abbrev pub word-checked : ℕ → ℕ → Result (Unit {0}) Declined
 word-checked place w = cond (lawful w) (Ok tt) (Err (unlawful-at place w))
 
@@ -32,6 +33,7 @@ checked-from i (w ∷ ws) = cond (lawful w) (checked-from (i + 1) ws) (Err (unla
 abbrev pub checked : List ℕ → Result (Unit {0}) Declined
 checked ws = checked-from 0 ws
 
+-- the first n words hold instructions
 abbrev pub Lawful-below : List ℕ → ℕ → Type 0
 Lawful-below ws n = (k : ℕ) → k < n → lawful (getD ws k 0) ≡ true
 

@@ -15,6 +15,7 @@ use Rattle.isa.specs.declared.instruction.Instruction.the-variants.{Loadc, Loa
 use Rattle.isa.specs.Registers.{register-at}
 use Rattle.isa.specs.Operations.{operation-at, code-of}
 
+-- the kind of a word, and the registers in its fields
 abbrev pub kind : ℕ → ℕ
 kind w = w / 2 ^ 28
 
@@ -49,6 +50,7 @@ lawful w = isSome (decoded w)
 abbrev pub read : ℕ → Result Instruction Declined
 read w = okOr (decoded w) (refused 3 (w ∷ []))
 
+-- the word with a kind, three registers and a number in its fields
 abbrev pub packed : ℕ → ℕ → ℕ → ℕ → ℕ → ℕ
 packed k a b c n = k * 2 ^ 28 + a * 2 ^ 24 + b * 2 ^ 20 + c * 2 ^ 16 + n
 
@@ -70,7 +72,7 @@ Fitting (Load a b) = Unit {0}
 Fitting (Store a b) = Unit {0}
 Fitting (Jz a b) = Unit {0}
 
--- a word with its spare bits 0: Loadc has none in a and n, Loadpc none in a, Op none in a, b, c and the operation, the others none in a and b
+-- a word with its spare bits 0: of Loadc a and n stay, of Loadpc a, of Op a, b, c and the operation, of the others a and b
 abbrev pub cleared : ℕ → ℕ
 cleared w =
     cond (eqb (kind w) 1) (w / 2 ^ 24 * 2 ^ 24 + w % 2 ^ 16)

@@ -4,6 +4,7 @@ use mathlib.Core.List.{List}
 use lib.ListN.{take}
 use Rattle.listing.specs.declared.text.Text.{Text}
 
+-- the bytes of a text
 abbrev pub text-of : Text → List ℕ
 text-of t = take (t .len) (t .bytes)
 

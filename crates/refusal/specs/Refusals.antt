@@ -9,6 +9,7 @@ use Rattle.std.specs.declared.result.Result.the-variants.{Ok, Err}
 pub data Declined : Type 0 where
   refused : ℕ → List ℕ → Declined
 
+-- its number
 abbrev pub number-of : Declined → ℕ
 number-of (refused n fs) = n
 
