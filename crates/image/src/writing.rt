@@ -141,7 +141,7 @@ fn content_word(program: &[u32], words: &[u32], depth: u32, block: usize, j: usi
 fn next_word(program: &[u32], words: &[u32], depth: u32, bytes: &[u8], i: usize) -> u32
     requires contents { ⌜ Writable (now program) (now words) depth ⌝ }
     requires before { ⌜ Held (given (now program) (now words) depth) i (now bytes) ⌝ }
-    requires within { ⌜ i < 5504 ⌝ }
+    requires within { ⌜ i < 128 * 43 ⌝ }
     ensures { λ r. ⌜ r ≡ whole-word (given (now (program .entry)) (now (words .entry)) depth) i ⌝ }
 {
     let block = i / BLOCK_WORDS;
@@ -155,7 +155,7 @@ fn next_word(program: &[u32], words: &[u32], depth: u32, bytes: &[u8], i: usize)
 // The first words of the image, over what stands in the bytes.
 fn write_words(program: &[u32], words: &[u32], depth: u32, bytes: &mut [u8], count: usize)
     requires contents { ⌜ Writable (now program) (now words) depth ⌝ }
-    requires within { ⌜ count ≤ 5504 ⌝ }
+    requires within { ⌜ count ≤ 128 * 43 ⌝ }
     requires space { ⌜ 4 * count ≤ length (now bytes) ⌝ }
     ensures { λ _. ⌜ Laid (given (now (program .entry)) (now (words .entry)) depth) count (now (bytes .entry)) (now (bytes .exit)) ⌝ }
 {

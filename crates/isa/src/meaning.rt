@@ -7,18 +7,16 @@ ghost use Rattle.std.specs.declared.option.Option.the-variants.{Some, None};
 ghost use Rattle.isa.specs.Meanings.{is-jump, target-of, both, operands-of, following, early-value, executed-value, next-address, access-of};
 use crate::instruction::Instruction;
 use crate::register::Register;
-use crate::register::RegisterDebug;
-use crate::register::RegisterPartialEq;
 
 // The registers that an instruction reads, in the order a, b, c.
-#[derive(Clone, Copy, PartialEq, Eq, Debug)]
+#[derive(Clone, Copy)]
 pub struct Operands {
     pub first: Option<Register>,
     pub second: Option<Register>,
 }
 
 // What an instruction does at the data memory.
-#[derive(Clone, Copy, PartialEq, Eq, Debug)]
+#[derive(Clone, Copy, PartialEq, Eq)]
 pub enum Access {
     Nothing,
     // reads the word at an address

@@ -13,7 +13,6 @@ use isa::instruction::InstructionDebug;
 use isa::instruction::InstructionPartialEq;
 use isa::instruction::clear_spare_bits;
 use isa::meaning::Access;
-use isa::meaning::AccessDebug;
 use isa::meaning::AccessPartialEq;
 use isa::operation::Operation;
 use isa::program::check_length;
@@ -107,7 +106,7 @@ fn meanings() -> Result<(), Fail> {
     check_eq(jump.target(), None)?;
     check_eq(Instruction::Loadpc(r1).early_value(9), Some(9))?;
     check_eq(Instruction::Load(r1, r2).executed_value(9, 4, 0), None)?;
-    check_eq(Instruction::Store(r1, r2).access(4, 6), Access::Write(4, 6))?;
+    check(Instruction::Store(r1, r2).access(4, 6) == Access::Write(4, 6))?;
     check_eq(Register::new(16), None)
 }
 
