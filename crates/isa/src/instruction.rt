@@ -7,13 +7,11 @@ ghost use Rattle.isa.specs.Refusals.{of-unlawful};
 ghost use Rattle.isa.specs.Words.{packed, two-registers, read, decoded, encoded, recoded, Fitting};
 use crate::fault::Unlawful;
 use crate::operation::Operation;
-use crate::operation::OperationDebug;
 use crate::operation::OperationPartialEq;
 use crate::register::Register;
-use crate::register::RegisterDebug;
 use crate::register::RegisterPartialEq;
 
-#[derive(Clone, Copy, PartialEq, Eq, Debug)]
+#[derive(Clone, Copy, PartialEq, Eq)]
 pub enum Instruction {
     // a becomes the number
     Loadc(Register, u16),

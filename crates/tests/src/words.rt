@@ -9,7 +9,6 @@ use isa::fault::WordFault;
 use isa::fault::WordFaultDebug;
 use isa::fault::WordFaultPartialEq;
 use isa::instruction::Instruction;
-use isa::instruction::InstructionDebug;
 use isa::instruction::InstructionPartialEq;
 use isa::instruction::clear_spare_bits;
 use isa::meaning::Access;
@@ -18,12 +17,11 @@ use isa::operation::Operation;
 use isa::program::check_length;
 use isa::program::check_words;
 use isa::register::Register;
-use isa::register::RegisterDebug;
 use isa::register::RegisterPartialEq;
 use std::test::*;
 
 fn reads(word: u32, instruction: Instruction) -> Result<(), Fail> {
-    check_eq(Instruction::decode(word), Ok(instruction))
+    check(Instruction::decode(word) == Ok(instruction))
 }
 
 #[test]
@@ -50,7 +48,7 @@ fn unlawful_words() -> Result<(), Fail> {
         0xf000_0000,
         0xffff_ffff,
     ] {
-        check_eq(Instruction::decode(word), Err(Unlawful { word }))?;
+        check(Instruction::decode(word) == Err(Unlawful { word }))?;
     }
     Ok(())
 }
@@ -103,11 +101,11 @@ fn meanings() -> Result<(), Fail> {
     let jump = Instruction::Jz(r1, r2);
     check_eq(jump.next_address(7, 0, 40), 40)?;
     check_eq(jump.next_address(7, 1, 40), 8)?;
-    check_eq(jump.target(), None)?;
+    check(jump.target() == None)?;
     check_eq(Instruction::Loadpc(r1).early_value(9), Some(9))?;
     check_eq(Instruction::Load(r1, r2).executed_value(9, 4, 0), None)?;
     check(Instruction::Store(r1, r2).access(4, 6) == Access::Write(4, 6))?;
-    check_eq(Register::new(16), None)
+    check(Register::new(16) == None)
 }
 
 #[test]
