@@ -1,5 +1,4 @@
 // What the workbench does with the bytes of an image.
-ghost use Rattle.image.specs.Opening.{Opening};
 ghost use Rattle.listing.specs.Texts.{text-of};
 ghost use Rattle.host.specs.Report.{Reported};
 use image::fault::ImageFaultRefusal;

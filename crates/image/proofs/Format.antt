@@ -2,17 +2,16 @@
 use Prim.Native.Nat.{ℕ, zero, suc, _+_, _-_, _*_, _/_, _%_, _^_, _<_, _≤_}
 use mathlib.Core.Bool.{Bool, true, false, cond}
 use mathlib.Core.List.{List, [], _∷_, map}
-use mathlib.Core.Logic.{_≢_}
 use mathlib.Core.Path.{_≡_, refl, sym, ap, _∙_}
 use native.Mathlib.Nat.{mod-lt}
 use native.Mathlib.Omega.{arith}
 use borrow.Author.Needs.{needs}
-use borrow.Author.Tests.{lt-ltb, le-ltb}
+use borrow.Author.Tests.{lt-ltb}
 use lib.Dec.{eqb, ltb, lit<}
 use lib.ListN.{length, getD, length-map}
 use Rattle.isa.specs.Words.{cleared}
 use Rattle.isa.proofs.Words.{cleared-small}
-use Rattle.image.specs.Words.{byte-of, word-at, put-word}
+use Rattle.image.specs.Words.{byte-of, put-word}
 use Rattle.image.specs.Blocks.{weighted, check, block-word, pages}
 use Rattle.image.specs.Format.{Contents, content, unchecked-word, image-word, whole-word, image-byte}
 use Rattle.image.specs.Writing.{given, Held, Laid}
@@ -98,10 +97,6 @@ content-word c i p h = sym (inner-at c (i / 128) (i % 128) p h)
 
 pub check-word : (c : Contents) (i : ℕ) (bytes : List ℕ) → Held c i bytes → i % 128 ≡ 127 → check (block-word bytes (i / 128)) ≡ whole-word c i
 check-word c i bytes h e = rw e (check-held c (i / 128) i bytes h (omega arith))
-
--- nothing is laid at first
-pub laid-none : (c : Contents) (s : List ℕ) → Laid c 0 s s
-laid-none c s k = search needs
 
 laid-here : (c : Contents) (i w k : ℕ) (s : List ℕ) → 4 * i + 4 ≤ length s → w ≡ whole-word c i → k / 4 ≡ i → getD (put-word s i w) k 0 ≡ image-byte c k
 laid-here c i w k s l e q =

@@ -8,16 +8,15 @@ use borrow.Author.Needs.{needs}
 use borrow.Author.Tests.{lt-ltb, le-ltb}
 use lib.Dec.{eqb, ltb, lit<}
 use lib.ListN.{length, getD, take, drop, length-map, length-append, length-drop}
-use Rattle.std.specs.Iters.{counting}
 use Rattle.std.specs.declared.result.Result.the-variants.{Ok}
 use Rattle.std.proofs.shelf.Counted.{length-map-counting, getD-map-counting}
-use Rattle.std.proofs.shelf.Lists.{same-lists, ext-getD, getD-append-left, getD-append-right, getD-drop, getD-default, take-at}
+use Rattle.std.proofs.shelf.Lists.{ext-getD, getD-append-left, getD-append-right, getD-drop, take-at}
 use Rattle.isa.specs.Words.{lawful, cleared}
 use Rattle.isa.specs.Programs.{Lawful-program}
 use Rattle.isa.proofs.Words.{cleared-lawful}
-use Rattle.image.specs.Words.{byte-of, word-at}
-use Rattle.image.specs.Blocks.{check, block-word, block-count, Sound, All-sound, pages, place-from}
-use Rattle.image.specs.Format.{Contents, blocks-for, blocks-of, content, image-word, whole-word, image-byte, image-of, word-from, words-from, program-in, data-in, contents-in}
+use Rattle.image.specs.Words.{word-at}
+use Rattle.image.specs.Blocks.{All-sound, pages}
+use Rattle.image.specs.Format.{Contents, blocks-for, blocks-of, content, image-word, image-byte, image-of, word-from, words-from, program-in, contents-in}
 use Rattle.image.specs.Opening.{Right-length, Right-counts, Opening, opened}
 use Rattle.image.specs.Writing.{Writable, Writing, written, given, Held, Laid}
 use Rattle.image.proofs.Contents.{length-words, word-here}

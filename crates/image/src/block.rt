@@ -1,6 +1,6 @@
 // Blocks: 128 words with a number and a check.
 ghost use mathlib.Core.Path.{_≡_};
-ghost use Prim.Native.Nat.{ℕ, _^_, _<_};
+ghost use Prim.Native.Nat.{_^_, _<_};
 ghost use Rattle.std.specs.Results.{Cases};
 ghost use Rattle.image.specs.Blocks.{check, block-word, block-count, Sound, All-sound};
 use crate::layout::BLOCK_BYTES;

@@ -1,6 +1,6 @@
 // Where things stand in an image.
 ghost use mathlib.Core.Path.{_≡_};
-ghost use Prim.Native.Nat.{ℕ, _^_, _<_, _≤_};
+ghost use Prim.Native.Nat.{_^_, _<_, _≤_};
 ghost use Rattle.image.specs.Blocks.{pages, place-from};
 ghost use Rattle.image.specs.Format.{blocks-for, length-in, size-in, depth-in, data-block, word-from};
 use crate::words::read_word;

@@ -2,7 +2,7 @@
 ghost use mathlib.Core.Path.{_≡_};
 ghost use mathlib.Core.Bool.{true};
 ghost use mathlib.Core.List.{[], _∷_, map};
-ghost use Prim.Native.Nat.{ℕ, _+_, _*_, _^_, _<_, _≤_};
+ghost use Prim.Native.Nat.{ℕ, _+_, _*_, _<_, _≤_};
 ghost use lib.ListN.{length, getD, take};
 ghost use Rattle.std.specs.Results.{Cases};
 ghost use Rattle.std.specs.Vec.{made};
@@ -10,7 +10,7 @@ ghost use Rattle.std.specs.declared.result.Result.the-variants.{Ok, Err};
 ghost use Rattle.refusal.specs.Refusals.{told};
 ghost use Rattle.isa.specs.declared.fault.ProgramFault.the-variants.{Word};
 ghost use Rattle.isa.specs.Words.{lawful, cleared};
-ghost use Rattle.isa.specs.Programs.{Lawful-program, First-unlawful};
+ghost use Rattle.isa.specs.Programs.{Lawful-program};
 ghost use Rattle.image.specs.Opening.{Opening};
 ghost use Rattle.image.specs.Writing.{of-write, write-fault, Writable, Writing, given, left-by, Held, Laid};
 ghost use Rattle.image.specs.Format.{content, whole-word};

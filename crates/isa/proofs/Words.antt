@@ -1,5 +1,5 @@
 -- Writing an instruction and reading it back, and reading a word and writing it again.
-use Prim.Native.Nat.{ℕ, _+_, _*_, _/_, _%_, _^_, _<_}
+use Prim.Native.Nat.{ℕ, _/_, _%_, _^_, _<_}
 use mathlib.Core.List.{[], _∷_}
 use mathlib.Core.Path.{_≡_, refl, sym, ap, _∙_}
 use native.Mathlib.Omega.{arith}
@@ -17,7 +17,6 @@ use Rattle.isa.specs.declared.instruction.Instruction.{Instruction}
 use Rattle.isa.specs.declared.instruction.Instruction.the-variants.{Loadc, Loadpc, Op, Load, Store, Jz}
 use Rattle.isa.specs.declared.register.Register.{Register}
 use Rattle.isa.specs.Operations.{operation-at, operation-of, code-of}
-use Rattle.isa.specs.Registers.{register-at}
 use Rattle.isa.specs.Words.{decoded, encoded, cleared, lawful, read, recoded, packed, Fitting, kind, a-of, b-of, c-of}
 use Rattle.isa.proofs.Registers.{same-register}
 

@@ -1,6 +1,6 @@
 // Instructions and the words that hold them.
 ghost use mathlib.Core.Path.{_≡_};
-ghost use Prim.Native.Nat.{ℕ, _^_, _<_};
+ghost use Prim.Native.Nat.{_^_, _<_};
 ghost use Rattle.std.specs.declared.option.Option.the-variants.{Some};
 ghost use Rattle.refusal.specs.Refusals.{told};
 ghost use Rattle.isa.specs.Refusals.{of-unlawful};

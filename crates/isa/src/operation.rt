@@ -1,6 +1,5 @@
 // The eight operations on two words.
 ghost use mathlib.Core.Path.{_≡_};
-ghost use Prim.Native.Nat.{ℕ};
 ghost use Rattle.isa.specs.Operations.{operation-at, code-of, applied};
 
 #[derive(Clone, Copy, PartialEq, Eq)]

@@ -9,7 +9,7 @@ use lib.Dec.{ltb}
 use lib.ListN.{length, take, set, getD}
 use Rattle.std.specs.Written.{decimal}
 use Rattle.std.proofs.shelf.Decimals.{decimal-digit, decimal-step, length-decimal-le}
-use Rattle.std.proofs.shelf.Lists.{append-nil, take-all, take-take, take-append-le, take-more, take-more-set, length-take, length-take-le, length-push}
+use Rattle.std.proofs.shelf.Lists.{append-nil, take-all, take-take, take-append-le, take-more, take-more-set, length-take-le, length-push}
 use Rattle.listing.specs.Texts.{clipped}
 
 pub clip-short : (xs : List ℕ) → length xs ≤ 512 → clipped xs ≡ xs

@@ -1,6 +1,6 @@
 // Registers and their numbers.
 ghost use mathlib.Core.Path.{_≡_};
-ghost use Prim.Native.Nat.{ℕ, _<_};
+ghost use Prim.Native.Nat.{_<_};
 ghost use Rattle.isa.specs.Registers.{register-at, numbered};
 use crate::register::Register;
 

@@ -1,6 +1,5 @@
 use Prim.Native.Nat.{_%_, _<_}
 use mathlib.Core.Path.{_∙_}
-use native.Mathlib.Omega.{arith}
 use borrow.Author.Needs.{needs}
 use Rattle.image.specs.Writing.{given}
 use Rattle.image.proofs.Format.{number-word, content-word, check-word}

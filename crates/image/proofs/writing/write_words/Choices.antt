@@ -1,5 +1,3 @@
-use mathlib.Core.Path.{_≡_}
-use lib.ListN.{length}
 use Rattle.image.specs.Writing.{given, Laid}
 use Rattle.image.proofs.writing.write_words.Given as given-here
 

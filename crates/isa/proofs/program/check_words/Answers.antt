@@ -1,6 +1,5 @@
 use mathlib.Core.Path.{sym}
 use native.Mathlib.Omega.{arith}
-use lib.ListN.{length}
 use Rattle.std.proofs.shelf.Results.{err-from-errBy}
 use Rattle.isa.specs.Programs.{Lawful-program}
 use Rattle.isa.proofs.Programs.{checked-lawful, checked-unlawful, first-refused}
