@@ -1,4 +1,6 @@
 // axbench: reads an image from standard input, and prints one line on it.
+#![tactic(auto)]
+
 use host::report;
 use image::layout::LONGEST_IMAGE;
 use std::io;

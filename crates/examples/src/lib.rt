@@ -1,4 +1,6 @@
 // Worked examples, proved of the definitions that every contract uses.
+#![tactic(auto)]
+
 ghost use Rattle.examples.specs.Examples.{Examples};
 
 pub fn examples_stand()

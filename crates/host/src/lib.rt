@@ -1,4 +1,6 @@
 // What the workbench does with the bytes of an image.
+#![tactic(auto)]
+
 ghost use Rattle.listing.specs.Texts.{text_of};
 ghost use Rattle.host.specs.Report.{Reported};
 

@@ -1,4 +1,6 @@
 // Images: a program, its data words and a depth as checked blocks of bytes.
+#![tactic(auto)]
+
 pub mod block;
 pub mod fault;
 pub mod layout;

@@ -1,4 +1,6 @@
 // Instruction words: reading, writing and meaning. Everything that runs programs stands on this crate's contracts.
+#![tactic(auto)]
+
 pub mod fault;
 pub mod instruction;
 pub mod meaning;

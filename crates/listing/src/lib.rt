@@ -1,3 +1,5 @@
 // What the workbench prints, as bytes.
+#![tactic(auto)]
+
 pub mod lines;
 pub mod text;

@@ -1,4 +1,6 @@
 // What a declined call says: a number, and figures that go with it.
+#![tactic(auto)]
+
 ghost use Rattle.std.specs.Prelude.{◌≡◌};
 ghost use Rattle.refusal.specs.Refusals.{Declined, number_of, first_figure};
 

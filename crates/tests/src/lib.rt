@@ -1,4 +1,6 @@
 // Tests of the library crates on examples and edges.
+#![tactic(auto)]
+
 #[cfg(test)]
 mod bytes;
 #[cfg(test)]

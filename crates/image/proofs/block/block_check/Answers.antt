@@ -9,7 +9,7 @@ more words i sum w e f = rw (e, f, add-one i, mul_comm (words i) (2 * i + 1)) (s
 
 pub loop-i-preserved : goal.loop-i-preserved
 loop-i-preserved c =
-    more (block_word c.args.bytes.now c.args.block) c.loop-i.i c.loop-i.sum c.read-word-word.result c.loop-i.invariant c.read-word-word.ensures
+    more (block_word c.args.bytes.now c.args.block) c.loop-i.i c.loop-i.sum c.read_word-word.result c.loop-i.invariant c.read_word-word.ensures
 
 pub returns : goal.returns
 unfolding check

@@ -8,10 +8,10 @@ returns-in-0 c = number_word (given c.args.program.now c.args.words.now c.args.d
 
 pub returns-in-127 : goal.returns-in-127
 returns-in-127 c =
-    c.block-check.ensures ∙ check_word (given c.args.program.now c.args.words.now c.args.depth) c.args.i c.args.bytes.now c.requires.before c.in-127.is
+    c.block_check.ensures ∙ check_word (given c.args.program.now c.args.words.now c.args.depth) c.args.i c.args.bytes.now c.requires.before c.in-127.is
 
-pub returns-in-default : goal.returns-in-default
-returns-in-default c =
+pub returns-in_default : goal.returns-in_default
+returns-in_default c =
     let p : 0 < c.args.i % 128 = search rules in
     let q : c.args.i % 128 < 127 = search rules in
     c.content_word.ensures ∙ content_word (given c.args.program.now c.args.words.now c.args.depth) c.args.i p q

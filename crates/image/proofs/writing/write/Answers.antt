@@ -5,24 +5,24 @@ use Rattle.image.proofs.writing.write.Goals as goal
 
 pub returns-then-bytes-blocks : goal.returns-then-bytes-blocks
 returns-then-bytes-blocks c =
-    record { answer = no_space c.in-ok-check-contents.ensures (let e = c.block-total-blocks.ensures in omega arith); after = refl; opens = tt }
+    record { answer = no_space c.in_ok-check_contents.ensures (let e = c.block_total-blocks.ensures in omega arith); after = refl; opens = tt }
 
 pub returns : goal.returns
 returns c =
-    let ok = c.in-ok-check-contents.ensures in
-    let e = c.block-total-blocks.ensures in
+    let ok = c.in_ok-check_contents.ensures in
+    let e = c.block_total-blocks.ensures in
     let l = c.if-bytes-blocks.false in
     let program = c.args.program.now in
     let words = c.args.words.now in
     let before = c.args.bytes.now in
-    let s = c.write-words.new.bytes in
+    let s = c.write_words.new.bytes in
     record {
-      answer = written_answer program words c.args.depth c.block-total-blocks.result before s ok e l;
-      after = written_bytes program words c.args.depth c.block-total-blocks.result before s ok e l (omega arith) c.write-words.ensures;
+      answer = written_answer program words c.args.depth c.block_total-blocks.result before s ok e l;
+      after = written_bytes program words c.args.depth c.block_total-blocks.result before s ok e l (omega arith) c.write_words.ensures;
       opens =
-          written_image program words c.args.depth c.block-total-blocks.result before s ok e l
-          (λ k. (c.type-inv.program k).fits)
-          (λ k. (c.type-inv.words k).fits)
+          written_image program words c.args.depth c.block_total-blocks.result before s ok e l
+          (λ k. (c.type_inv.program k).fits)
+          (λ k. (c.type_inv.words k).fits)
           (omega arith)
-          c.write-words.ensures;
+          c.write_words.ensures;
     }

@@ -1,5 +1,5 @@
 use Rattle.image.specs.Writing.{given, Laid}
-use Rattle.image.proofs.writing.write_words.Given as given-here
+use Rattle.image.proofs.writing.write_words.Given as goal
 
-abbrev pub invariant_loop_i : given-here.invariant_loop_i
-invariant_loop_i l = Laid (given l.program l.words l.depth) l.i l.initial.bytes l.bytes
+abbrev pub invariant-loop-i : goal.invariant-loop-i
+invariant-loop-i l = Laid (given l.program l.words l.depth) l.i l.initial.bytes l.bytes

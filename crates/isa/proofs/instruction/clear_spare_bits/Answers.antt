@@ -5,8 +5,8 @@ use Rattle.isa.proofs.instruction.clear_spare_bits.Goals as goal
 
 pub returns : goal.returns
 returns c =
-    ap Ok c.encode.ensures.value ∙ read_written c.args.word c.in-ok-decode.field-0 (omega arith) c.in-ok-decode.ensures
+    ap Ok c.encode.ensures.value ∙ read_written c.args.word c.in_ok-decode.field-0 (omega arith) c.in_ok-decode.ensures
 
-pub returns-in-err-decode : goal.returns-in-err-decode
+pub returns-in_err-decode : goal.returns-in_err-decode
 unfolding lawful
-returns-in-err-decode c = search rules
+returns-in_err-decode c = search rules

@@ -4,4 +4,4 @@ use Rattle.image.proofs.Contents.{length_words}
 use Rattle.image.proofs.opening.Image.data_block.Goals as goal
 
 pub returns : goal.returns
-returns c = c.data-block-in.ensures.value ∙ ap (λ (n : ℕ). 1 + pages n) (sym (length_words _ _ _))
+returns c = c.data_block_in.ensures.value ∙ ap (λ (n : ℕ). 1 + pages n) (sym (length_words _ _ _))

@@ -6,6 +6,6 @@ use Rattle.isa.proofs.instruction.Instruction.encode.Goals as goal
 pub returns : goal.returns
 returns c =
     record {
-      value = c.word-of.ensures.value;
-      reads_back = ap decoded c.word-of.ensures.value ∙ reads_back c.args.self c.word-of.ensures.fitting;
+      value = c.word_of.ensures.value;
+      reads_back = ap decoded c.word_of.ensures.value ∙ reads_back c.args.self c.word_of.ensures.fitting;
     }

@@ -8,4 +8,4 @@ returns-then-number-lt10 t c = push_digit (text_of c.args.self.now) (text_of c.p
 
 pub returns-else-number-lt10 : goal.returns-else-number-lt10
 returns-else-number-lt10 t c =
-    push_digits (text_of c.args.self.now) (text_of c.push-number.new.self) (text_of c.push-else-number-lt10.new.self) c.args.number (omega arith) c.ranges.number.fits c.push-number.ensures c.push-else-number-lt10.ensures
+    push_digits (text_of c.args.self.now) (text_of c.push_number.new.self) (text_of c.push-else-number-lt10.new.self) c.args.number (omega arith) c.ranges.number.fits c.push_number.ensures c.push-else-number-lt10.ensures
