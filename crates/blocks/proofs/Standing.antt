@@ -57,7 +57,7 @@ module _ (m k : BlockMemory) (p w : ℕ) (h : p < m.size) (small : w < 2 ^ 32) (
   rest_kept : others k.first k.size k.bytes.now ≡ others m.first m.size m.bytes.now
   rest_kept = ap₂ (λ (f n : ℕ). others f n k.bytes.now) first size ∙ others_changed m.bytes.now k.bytes.now m.first m.size p w h change
 
-  pub change_frame : k.bytes.name ≡ m.bytes.name → frame_of k ≡ frame_of m
+  pub change_frame : k.bytes.ghost_name ≡ m.bytes.ghost_name → frame_of k ≡ frame_of m
   change_frame loan =
       ap₂ (λ (l : ℕ) (r : List ℕ). record { loan = l; first = k.first; size = k.size; rest = r }) loan rest_kept
       ∙ ap₂ (λ (f n : ℕ). record { loan = m.bytes.ghost_name; first = f; size = n; rest = others m.first m.size m.bytes.now }) first size

@@ -12,6 +12,7 @@ use memory::flat::{FlatMemory, replace_in};
 use memory::meaning::DataMemory;
 use refusal::Refusal;
 use std::process::Abort;
+use std::test::Fail;
 
 // The last word of a memory is there, and what lies at its size and beyond is refused.
 fn edges<M: DataMemory>(rt: &impl Abort, memory: &mut M, size: u32) {

@@ -3,6 +3,7 @@ use crate::bytes::*;
 use image::fault::ImageFault;
 use image::opening::open;
 use isa::fault::{ProgramFault, WordFault};
+use std::test::Fail;
 
 #[test]
 fn wrong_lengths(rt: HostRuntime) -> Result<(), Fail> {

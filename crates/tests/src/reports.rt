@@ -2,6 +2,7 @@
 use crate::bytes::*;
 use host::report;
 use std::process::Abort;
+use std::test::Fail;
 
 fn says(rt: &impl Abort, bytes: &[u8], line: &[u8]) {
     let text = report(bytes);

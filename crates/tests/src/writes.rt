@@ -3,6 +3,7 @@ use crate::bytes::*;
 use image::opening::open;
 use std::alloc::Global;
 use std::process::Abort;
+use std::test::Fail;
 
 // Writes an image of so many words, and looks at each word of it.
 fn round_trip(

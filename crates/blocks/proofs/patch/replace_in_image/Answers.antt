@@ -9,5 +9,5 @@ returns c =
     let k = c.replace.new.memory in
     let made = c.new-memory.ensures in
     let used = c.replace.ensures in
-    let loan = sym (ap (λ (x : Kept). x.loan) used.held ∙ ap (λ r. r.name) made.bytes) in
+    let loan = sym (ap (λ (x : Kept). x.loan) used.held ∙ ap (λ r. r.ghost_name) made.bytes) in
     replaced c.args.bytes.now _ m k c.args.address c.args.word _ (ap (λ r. r.now) made.bytes) (search rules) made.words made.stands used.held used.left used.answer

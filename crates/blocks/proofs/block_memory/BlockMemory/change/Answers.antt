@@ -13,14 +13,14 @@ made c =
     let m = c.args.self.now in
     let p = c.args.place in
     let w = m.within in
-    rewritten_so m.bytes.now c.put.new.self.bytes.now c.put-2.new.self.bytes.now (block_of m.first p) (place_of p) c.args.word c.word-old.result c.word.result c.updated-check-check.result
+    rewritten_so m.bytes.now c.put.new.self.bytes.now c.put-2.new.self.bytes.now (block_of m.first p) (place_of p) c.args.word c.word-old.result c.word.result c.updated_check-check.result
     (omega arith)
     (omega arith)
     c.ranges.word.fits
-    (omega (arith, c.word-old.type-inv))
+    (omega (arith, c.word-old.type_inv))
     c.word-old.ensures
     (c.word.ensures ∙ m.checked (p / 126) (omega arith))
-    c.updated-check-check.ensures
+    c.updated_check-check.ensures
     c.put.ensures.bytes
     c.put-2.ensures.bytes
 
@@ -32,12 +32,12 @@ kept m t f p w h small e q =
     let d = write_changed s t m.first m.size p w h m.within small e in
     rw q (rw d.long m.within, checked_changed s t m.first m.size p w h d m.checked)
 
-pub invariant-of-self-2 : goal.invariant-of-self-2
-invariant-of-self-2 c =
+pub invariant_of-self-2 : goal.invariant_of-self-2
+invariant_of-self-2 c =
     let m = c.args.self.now in
     let k = c.put-2.new.self in
     let r = kept m k.bytes.now k.first c.args.place c.args.word c.requires c.ranges.word.fits (made c) (c.put-2.ensures.first ∙ c.put.ensures.first) in
-    (m.few, (r.0, (r.1, tt)))
+    record { few = m.few; within = r.0; checked = r.1 }
 
 pub returns : goal.returns
 returns c =

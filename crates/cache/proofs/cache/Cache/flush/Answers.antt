@@ -10,9 +10,9 @@ loop-line-preserved g c =
     let ls = c.args.self.now.lines in
     let i = c.loop-line.line-index in
     let ws = words c.loop-line.self.below.now in
-    let vs = words c.write-down.new.self.below.now in
+    let vs = words c.write_down.new.self.below.now in
     let inv = c.loop-line.invariant in
-    let one = c.write-down.ensures in
+    let one = c.write_down.ensures in
     let h : i < 16 = omega arith in
     let placed = c.args.self.now.placed in (
       one.lines ∙ inv.0,

@@ -40,13 +40,13 @@ returns-in-Some g c =
       lines = record { lines = λ _. sym (ap (laid ls a) q ∙ hit_lines ls a w ws e); below = λ _. sym (hit_below ls a w ws e); hit = λ _. refl };
     }
 
-pub returns-in-err-word : goal.returns-in-err-word
-returns-in-err-word g c =
+pub returns-in_err-word : goal.returns-in_err-word
+returns-in_err-word g c =
     let ls = c.args.self.now.lines in
     let ws = g.M.DataMemory.words c.args.self.now.below.now in
     let a = c.args.address in
     let n = length_over ls ws in
-    let o = is_outside ws a (get_or ws a 0) (of_no_word c.in-err-word.field-0.0) c.in-err-word.ensures.answer in
+    let o = is_outside ws a (get_or ws a 0) (of_no_word c.in_err-word.field-0.0) c.in_err-word.ensures.answer in
     let f : ⊥ = omega arith in
     absurd f
 
@@ -58,11 +58,11 @@ returns g c =
     let a = c.args.address in
     let n = length_over ls ws in
     let h : a < length ws = omega arith in
-    let read = c.in-ok-word.ensures in
-    let room = c.make-room.ensures in
+    let read = c.in_ok-word.ensures in
+    let room = c.make_room.ensures in
     let lay = c.lay.ensures in
-    let w = c.in-ok-word.word in
-    let e : word_held (line_of ls a) a ≡ None = sym c.in-default.ensures in
+    let w = c.in_ok-word.word in
+    let e : word_held (line_of ls a) a ≡ None = sym c.in_default.ensures in
     let x : Ok w ≡ Ok (get_or ws a 0) = read.answer ∙ inside ws a (get_or ws a 0) h in
     let y : w ≡ get_or ws a 0 = cc in
     let q : w ≡ get_or (over ls ws) a 0 = y ∙ sym (miss_word ls a ws e h) in
