@@ -1,8 +1,8 @@
 -- The check of a block of which one word has changed.
-use Rattle.std.proofs.Common.{◌≡◌, ℕ, zero, suc, ◌+◌, ◌-◌, ◌*◌, ◌/◌, ◌%◌, ◌^◌, ◌<◌, ◌≤◌, ◌⊎◌, List, length, sym, refl, ap, ◌∙◌, ap₂, ⊎_elim, mul_assoc, mul-add, arith}
+use Rattle.std.proofs.Common.{◌≡◌, ℕ, zero, suc, ◌+◌, ◌-◌, ◌*◌, ◌/◌, ◌%◌, ◌^◌, ◌<◌, ◌≤◌, List, length, sym, ap, ◌∙◌, ap₂, ⊎_elim, mul_assoc, mul-add, arith}
 use native.Mathlib.Nat.{add-mul-mod_self_right, mod-add-mod, add-mod-mod, mod-add-div'}
 use Rattle.std.proofs.lemmas.Bool.{cases_eq}
-use Rattle.image.specs.Words.{word_at, put_word}
+use Rattle.image.specs.Words.{put_word}
 use Rattle.image.specs.Blocks.{weighted, check, block_word}
 use Rattle.blocks.specs.Layout.{rewritten}
 use Rattle.image.proofs.Bytes.{word_put_same, word_put_other}

@@ -1,12 +1,11 @@
 -- The same image with other data words: it opens, and every byte of it is fixed.
-use Rattle.std.proofs.Common.{◌≡◌, ℕ, zero, suc, ◌+◌, ◌-◌, ◌*◌, ◌/◌, ◌%◌, ◌^◌, ◌<◌, ◌≤◌, Bool, true, false, cond, ltb, leb, ◌⊎◌, List, map, length, get_or, Ok, sym, refl, ap, ◌∙◌, subst, ⊎_elim, add-zero, zero-add, arith, ltb-true, eqb-true, leb-true}
-use Rattle.std.specs.List.{range_with_len}
+use Rattle.std.proofs.Common.{◌≡◌, ℕ, zero, suc, ◌+◌, ◌-◌, ◌*◌, ◌/◌, ◌%◌, ◌^◌, ◌<◌, ◌≤◌, Bool, true, false, cond, ltb, leb, List, length, get_or, Ok, sym, refl, ap, ◌∙◌, subst, ⊎_elim, add-zero, zero-add, arith, ltb-true, eqb-true, leb-true}
 use Rattle.std.proofs.lemmas.List.FromFn.{length-map-range_with_len, get_or-map-range_with_len}
 use Rattle.std.proofs.lemmas.List.{ext_get_or, get_or_past}
 use Rattle.std.proofs.lemmas.Bool.{cases_lt, cond-false, and_parts, or_cases}
 use Rattle.isa.specs.Programs.{LawfulProgram}
 use Rattle.image.specs.Words.{word_at}
-use Rattle.image.specs.Blocks.{check, block_word, pages, place_from, Sound, AllSound}
+use Rattle.image.specs.Blocks.{check, block_word, pages, place_from, AllSound}
 use Rattle.image.specs.Format.{Contents, length_in, size_in, depth_in, data_block, word_from, words_from, program_in, data_in, contents_in}
 use Rattle.image.specs.Opening.{RightLength, RightCounts, Opening}
 use Rattle.image.proofs.Contents.{length_words, word_here}

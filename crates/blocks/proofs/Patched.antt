@@ -1,5 +1,5 @@
 -- A data word replaced through a block memory.
-use Rattle.std.proofs.Common.{◌≡◌, ℕ, ◌/◌, false, List, [], length, get_or, set, Ok, Err, Result, sym, refl, ap, ◌∙◌, subst, arith}
+use Rattle.std.proofs.Common.{◌≡◌, ℕ, ◌/◌, false, List, [], length, set, Ok, Err, Result, sym, ap, ◌∙◌, subst, arith}
 use Rattle.std.proofs.lemmas.List.{ext_get_or}
 use Rattle.std.proofs.lemmas.Bool.Decides.{nat_tests}
 use Rattle.refusal.specs.Refusals.{Declined}

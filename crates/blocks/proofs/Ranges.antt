@@ -1,11 +1,11 @@
 -- The data words of an image that opens.
-use Rattle.std.proofs.Common.{◌≡◌, ℕ, ◌+◌, ◌*◌, ◌<◌, ◌≤◌, List, [], length, Ok, Err, Result, sym, refl, ap, ◌∙◌, arith}
+use Rattle.std.proofs.Common.{◌≡◌, ℕ, ◌+◌, List, length, Ok, Err, Result, sym, refl, ap, ◌∙◌, arith}
 use Rattle.refusal.specs.Refusals.{Declined}
 use Rattle.image.specs.Blocks.{pages}
 use Rattle.image.specs.Format.{Contents, length_in, size_in, data_block, data_block_of, words_from, contents_in}
 use Rattle.image.specs.Opening.{Opening}
 use Rattle.image.proofs.Contents.{length_words}
-use Rattle.image.proofs.Opened.{Whole, Says, says}
+use Rattle.image.proofs.Opened.{Whole, says}
 use Rattle.blocks.specs.Ranges.{Range, data_of}
 
 pub whole_range : (bytes : List ℕ) → Whole bytes → Range bytes (data_block bytes) (size_in bytes)

@@ -1,5 +1,5 @@
 -- A block memory over an image, after any calls.
-use Rattle.std.proofs.Common.{◌≡◌, ℕ, ◌^◌, ◌<◌, List, length, set, sym, refl, ap, ◌∙◌, subst, ap₂}
+use Rattle.std.proofs.Common.{◌≡◌, ℕ, ◌^◌, ◌<◌, List, length, set, sym, ap, ◌∙◌, subst, ap₂}
 use Rattle.image.specs.Format.{Contents, data_block, size_in, words_from}
 use Rattle.image.proofs.Contents.{length_words}
 use Rattle.image.proofs.Opened.{says}

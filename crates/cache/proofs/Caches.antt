@@ -1,7 +1,6 @@
 -- Caches and accesses to them.
-use Rattle.std.proofs.Common.{◌≡◌, ℕ, ◌<◌, ◌≤◌, List, length, refl, arith}
+use Rattle.std.proofs.Common.{ℕ, ◌<◌, ◌≤◌, List, length, refl, arith}
 use Rattle.cache.specs.declared.cache.Cache.{Cache}
-use Rattle.cache.specs.Lines.{laid, line_of, yielded}
 use Rattle.cache.specs.Caches.{words_below, Accessed}
 
 -- an access to an address that has no word

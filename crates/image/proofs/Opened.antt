@@ -1,10 +1,10 @@
 -- Which bytes open, and that opening has one answer but for the block that 15 names.
-use Rattle.std.proofs.Common.{◌≡◌, ℕ, ◌<◌, true, false, ◌⊎◌, List, length, get_or, Ok, Err, Result, sym, refl, ap, ◌∙◌, inl, inr}
+use Rattle.std.proofs.Common.{◌≡◌, ℕ, List, Ok, Err, Result, sym, refl, ap, ◌∙◌}
 use borrow.Author.Tests.{both_ways}
 use Rattle.refusal.specs.Refusals.{Declined}
 use Rattle.isa.specs.Words.{lawful}
 use Rattle.isa.specs.Programs.{LawfulProgram, FirstUnlawful}
-use Rattle.image.specs.Blocks.{Sound, AllSound}
+use Rattle.image.specs.Blocks.{AllSound}
 use Rattle.image.specs.Format.{Contents, program_in, contents_in}
 use Rattle.image.specs.Opening.{RightLength, RightCounts, Opening, wrong_length, damaged, wrong_counts, unlawful, opened}
 

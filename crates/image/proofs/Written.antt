@@ -3,7 +3,7 @@ use Rattle.std.proofs.Common.{◌≡◌, ℕ, ◌+◌, ◌-◌, ◌*◌, ◌/◌
 use lib.ListN.{length-map}
 use Rattle.std.proofs.lemmas.List.FromFn.{length-map-range_with_len, get_or-map-range_with_len}
 use Rattle.std.proofs.lemmas.List.{ext_get_or, get_or_append_left, get_or-append_right, get_or-drop, take_at}
-use Rattle.isa.specs.Words.{lawful, cleared}
+use Rattle.isa.specs.Words.{cleared}
 use Rattle.isa.specs.Programs.{LawfulProgram}
 use Rattle.isa.proofs.Words.{cleared_lawful}
 use Rattle.image.specs.Words.{word_at}

@@ -1,5 +1,5 @@
 -- The sixteen registers.
-use Rattle.std.specs.Prelude.{ℕ, ◌%◌, ◌<◌, cond, Some, None, Option, nat_lt}
+use Rattle.std.specs.Prelude.{ℕ, ◌%◌, cond, Some, None, Option, nat_lt}
 use Rattle.std.proofs.Common.{lit<, mod-lt}
 use Rattle.isa.specs.declared.register.Register.{Register}
 

@@ -1,4 +1,4 @@
-use Rattle.std.proofs.Common.{◌≡◌, ℕ, ◌+◌, ◌*◌, ◌/◌, ◌^◌, ◌<◌, ◌≤◌, List, length, sym, refl, ◌∙◌, subst, arith}
+use Rattle.std.proofs.Common.{◌≡◌, ℕ, ◌+◌, ◌*◌, ◌/◌, ◌^◌, ◌<◌, ◌≤◌, List, length, refl, ◌∙◌, arith}
 use Rattle.image.specs.Blocks.{pages}
 use Rattle.blocks.specs.declared.block_memory.BlockMemory.{BlockMemory}
 use Rattle.blocks.specs.Layout.{block_of, place_of, rewritten, Checked}

@@ -1,6 +1,4 @@
-use Rattle.std.proofs.Common.{◌≡◌, ℕ, ◌+◌, List, length, ap, ◌∙◌, arith}
-use Rattle.image.specs.Blocks.{pages}
-use Rattle.image.specs.Format.{Contents, data_block, size_in, data_block_of}
+use Rattle.std.proofs.Common.{◌∙◌, arith}
 use Rattle.image.specs.Opening.{contents_of}
 use Rattle.image.proofs.Opened.{says}
 use Rattle.blocks.proofs.Ranges.{whole_range, no_range, contents_size, contents_block}

@@ -1,6 +1,6 @@
-use Rattle.std.proofs.Common.{◌≡◌, ℕ, ◌%◌, ◌<◌, List, length, get_or, None, Option, sym, refl, ap, ◌∙◌, ap₂, arith}
+use Rattle.std.proofs.Common.{◌<◌, List, Option, sym, ap, ◌∙◌, ap₂, arith}
 use Rattle.cache.specs.declared.line.Line.{Line}
-use Rattle.cache.specs.Lines.{over, down}
+use Rattle.cache.specs.Lines.{over}
 use Rattle.cache.proofs.Lines.{over_down, down_more, all_down}
 use Rattle.cache.proofs.cache.Cache.flush.Goals as goal
 

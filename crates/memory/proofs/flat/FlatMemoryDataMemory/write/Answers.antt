@@ -1,6 +1,6 @@
-use Rattle.std.proofs.Common.{◌≡◌, ℕ, ◌<◌, ◌≤◌, List, length, drop, set, sym, refl, ap, ◌∙◌, arith, length-take, drop-set-lt}
+use Rattle.std.proofs.Common.{ℕ, ◌<◌, ◌≤◌, List, length, sym, refl, ap, arith, length-take, drop-set-lt}
 use lib.Seq.{take-set-lt, set_out}
-use Rattle.memory.specs.Flats.{first_words, words_beyond}
+use Rattle.memory.specs.Flats.{first_words}
 use Rattle.memory.proofs.Words.{inside, outside}
 use Rattle.memory.proofs.flat.FlatMemoryDataMemory.write.Goals as goal
 

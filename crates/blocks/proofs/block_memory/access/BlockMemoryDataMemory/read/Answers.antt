@@ -1,4 +1,4 @@
-use Rattle.std.proofs.Common.{◌≡◌, ◌<◌, ◌≤◌, length, get_or, Ok, sym, refl, ap, ◌∙◌, arith}
+use Rattle.std.proofs.Common.{◌≤◌, length, get_or, Ok, sym, refl, ap, ◌∙◌, arith}
 use Rattle.memory.proofs.Words.{inside, outside}
 use Rattle.image.proofs.Contents.{length_words, word_here}
 use Rattle.blocks.specs.Memories.{words_of}

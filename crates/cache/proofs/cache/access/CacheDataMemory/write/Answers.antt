@@ -1,4 +1,4 @@
-use Rattle.std.proofs.Common.{◌≡◌, ℕ, ◌<◌, ◌≤◌, List, length, Option, sym, refl, ap, ◌∙◌, arith, MutBor}
+use Rattle.std.proofs.Common.{◌≡◌, ◌<◌, ◌≤◌, List, length, Option, sym, refl, ap, ◌∙◌, arith, MutBor}
 use lib.Seq.{set_out}
 use Rattle.memory.proofs.Words.{inside, outside}
 use Rattle.cache.specs.declared.line.Line.{Line}
