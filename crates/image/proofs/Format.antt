@@ -9,10 +9,10 @@ use Rattle.image.specs.Format.{Contents, content, unchecked_word, image_word, wh
 use Rattle.image.specs.Writing.{given, Held, Laid}
 use Rattle.image.proofs.Bytes.{put_same, put_other, read_bytes}
 
-pub get_d_map : (f : ℕ → ℕ) (ws : List ℕ) (k : ℕ) → f 0 ≡ 0 → get_or (map f ws) k 0 ≡ f (get_or ws k 0)
-get_d_map f [] k z = sym z
-get_d_map f (w ∷ ws) zero z = refl
-get_d_map f (w ∷ ws) (suc k) z = get_d_map f ws k z
+pub get_or_map : (f : ℕ → ℕ) (ws : List ℕ) (k : ℕ) → f 0 ≡ 0 → get_or (map f ws) k 0 ≡ f (get_or ws k 0)
+get_or_map f [] k z = sym z
+get_or_map f (w ∷ ws) zero z = refl
+get_or_map f (w ∷ ws) (suc k) z = get_or_map f ws k z
 
 -- every number that the image holds has 32 bits
 pub record Small (c : Contents) : Type 0 where
@@ -127,7 +127,7 @@ pub given_small : (program words : List ℕ) (depth : ℕ) → ((k : ℕ) → ge
     → length program < 2 ^ 32 → length words < 2 ^ 32 → depth < 2 ^ 32 → Small (given program words depth)
 given_small program words depth p w lp lw d =
     record {
-      program = λ k. rw (get_d_map cleared program k refl) (cleared_small (get_or program k 0) (p k));
+      program = λ k. rw (get_or_map cleared program k refl) (cleared_small (get_or program k 0) (p k));
       words = w;
       program_length = rw (length-map program cleared) lp;
       words_length = lw;

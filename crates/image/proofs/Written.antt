@@ -12,7 +12,7 @@ use Rattle.image.specs.Format.{Contents, blocks_for, blocks_of, content, image_w
 use Rattle.image.specs.Opening.{RightLength, RightCounts, Opening, opened}
 use Rattle.image.specs.Writing.{Writable, Writing, written, given, Held, Laid}
 use Rattle.image.proofs.Contents.{length_words, word_here}
-use Rattle.image.proofs.Format.{Small, get_d_map, given_small, laid_held, whole_at, first_at, inner_at, check_held}
+use Rattle.image.proofs.Format.{Small, get_or_map, given_small, laid_held, whole_at, first_at, inner_at, check_held}
 
 pub length_image : (c : Contents) → length (image_of c) ≡ 512 * blocks_of c
 unfolding image_of
@@ -159,7 +159,7 @@ laid_bytes c before s e l h =
 given_lawful : (program : List ℕ) → ((k : ℕ) → get_or program k 0 < 2 ^ 32) → LawfulProgram program → LawfulProgram (map cleared program)
 given_lawful program t h k l =
     let n = length-map program cleared in
-    rw (get_d_map cleared program k refl) (cleared_lawful (get_or program k 0) (t k) (h k (omega arith)))
+    rw (get_or_map cleared program k refl) (cleared_lawful (get_or program k 0) (t k) (h k (omega arith)))
 
 -- what is written opens and holds what was given
 pub written_opens : (program words : List ℕ) (depth : ℕ) → ((k : ℕ) → get_or program k 0 < 2 ^ 32) → ((k : ℕ) → get_or words k 0 < 2 ^ 32)

@@ -25,7 +25,8 @@ pub(crate) fn pages_for(words: usize) -> usize
 
 // How many blocks an image has, by the lengths of its program and its data.
 pub(crate) fn block_total(program_len: usize, data_size: usize) -> usize
-    requires { (program_len ≤ 1024) × (data_size ≤ 4096) }
+    requires short { program_len ≤ 1024 }
+    requires small { data_size ≤ 4096 }
     ensures { result ≡ blocks_for program_len data_size }
 {
     1 + pages_for(program_len) + pages_for(data_size)
@@ -33,7 +34,8 @@ pub(crate) fn block_total(program_len: usize, data_size: usize) -> usize
 
 // The number of the word that holds a content word, given the first of its blocks.
 fn place_from(block: usize, place: usize) -> usize
-    requires { (block < 2 ^ 32) × (place < 2 ^ 32) }
+    requires block { block < 2 ^ 32 }
+    requires place { place < 2 ^ 32 }
     ensures { result ≡ place_from block place }
 {
     BLOCK_WORDS * (block + place / PAGE_WORDS) + (1 + place % PAGE_WORDS)

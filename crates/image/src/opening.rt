@@ -1,7 +1,7 @@
 // Opening bytes as an image, and what an opened image answers.
 ghost use Rattle.std.specs.Prelude.{◌≡◌, length, Decides, MatchResult};
 ghost use Rattle.isa.specs.Programs.{LawfulProgram, FirstUnlawful};
-ghost use Rattle.image.specs.declared.fault.ImageFault.TheVariants.{Counts as Wrong-counts};
+ghost use Rattle.image.specs.declared.fault.ImageFault.TheVariants.{Counts as WrongCounts};
 ghost use Rattle.image.specs.Format.{data_block_of, program_in};
 ghost use Rattle.image.specs.Opening.{RightLength, RightCounts, Opening, outcome, AtWord, contents_of};
 ghost use Rattle.std.specs.List.{slice_get};
@@ -29,7 +29,7 @@ fn has_right_length(bytes: &[u8]) -> bool
 }
 
 fn check_counts(bytes: &[u8]) -> Result<(), ImageFault>
-    ensures { MatchResult result (λ _. RightCounts bytes.now) (λ f. (f ≡ Wrong-counts) × (RightCounts bytes.now → ⊥)) }
+    ensures { MatchResult result (λ _. RightCounts bytes.now) (λ f. (f ≡ WrongCounts) × (RightCounts bytes.now → ⊥)) }
 {
     let program_len = length_in(bytes);
     let data_size = size_in(bytes);

@@ -95,7 +95,8 @@ fn program_word(program: &[u32], place: usize) -> u32
 
 // Content word j of block 0.
 fn header_word(program_len: usize, data_size: usize, depth: u32, j: usize) -> u32
-    requires { (program_len ≤ 1024) × (data_size ≤ 4096) }
+    requires short { program_len ≤ 1024 }
+    requires small { data_size ≤ 4096 }
     ensures { result ≡ slice_index (program_len ∷ data_size ∷ depth ∷ []) j }
 {
     match j {
@@ -108,7 +109,9 @@ fn header_word(program_len: usize, data_size: usize, depth: u32, j: usize) -> u3
 
 // Content word j of a block.
 fn content_word(program: &[u32], words: &[u32], depth: u32, block: usize, j: usize) -> u32
-    requires { (Writable program.now words.now depth) × ((block < 43) × (j < 126)) }
+    requires contents { Writable program.now words.now depth }
+    requires block { block < 43 }
+    requires within { j < 126 }
     ensures { result ≡ content (given program.now words.now depth) block j }
 {
     if block == 0 {

@@ -1,5 +1,5 @@
 -- Programs: lists of instruction words.
-use Rattle.std.specs.Prelude.{◌≡◌, ℕ, ◌+◌, ◌<◌, true, false, cond, List, [], ◌∷◌, length, Ok, Err, Result, nat_lt, slice_index, slice_index_or}
+use Rattle.std.specs.Prelude.{◌≡◌, ℕ, ◌+◌, ◌<◌, true, false, cond, List, [], ◌∷◌, length, Ok, Err, Result, nat_lt, slice_index}
 use Rattle.refusal.specs.Refusals.{Declined, refused}
 use Rattle.isa.specs.Words.{lawful}
 
@@ -35,6 +35,6 @@ LawfulProgram ws = LawfulBelow ws (length ws)
 -- the first word that holds no instruction, and its place
 pub record FirstUnlawful (ws : List ℕ) (place w : ℕ) : Type 0 where
   pub inside : place < length ws
-  pub word : slice_index_or ws place 0 ≡ w
+  pub word : slice_index ws place ≡ w
   pub unlawful : lawful w ≡ false
   pub before : LawfulBelow ws place

@@ -82,7 +82,11 @@ fn word_of(instruction: Instruction) -> u32
 }
 
 fn pack(kind: u32, a: u8, b: u8, c: u8, n: u32) -> u32
-    requires { (kind < 16) × ((a < 16) × ((b < 16) × ((c < 16) × (n < 2 ^ 16)))) }
+    requires kind { kind < 16 }
+    requires a { a < 16 }
+    requires b { b < 16 }
+    requires c { c < 16 }
+    requires n { n < 2 ^ 16 }
     ensures { result ≡ packed kind a b c n }
 {
     kind * 0x1000_0000 + a as u32 * 0x100_0000 + b as u32 * 0x10_0000 + c as u32 * 0x1_0000 + n

@@ -19,7 +19,8 @@ fn updated_check(check: u32, i: usize, old: u32, new: u32) -> u32
 impl BlockMemory<'_> {
     // Word i of a block.
     fn word(&self, block: usize, i: usize) -> u32
-        requires { (512 * block + 512 ≤ length self.now.bytes.now) × (i < 128) }
+        requires within { 512 * block + 512 ≤ length self.now.bytes.now }
+        requires inside { i < 128 }
         ensures { result ≡ block_word self.now.bytes.now block i }
     {
         let at = 4 * (BLOCK_WORDS * block + i);
