@@ -1,9 +1,8 @@
 -- What a change of one data word leaves: the data words, the checks and the other bytes.
 use Rattle.std.proofs.Common.{◌≡◌, ℕ, ◌+◌, ◌*◌, ◌/◌, ◌%◌, ◌^◌, ◌<◌, ◌≤◌, Bool, true, false, cond, ◌||◌, ◌⊎◌, List, length, get_or, set, sym, refl, ap, ◌∙◌, subst, ⊎_elim, mod-lt, zero-add, arith, lit<, length-set, get_or-set_other, get_or-set_same}
-use borrow.Author.Tests.{both_ways}
+use Rattle.std.proofs.lemmas.Bool.{both_ways, cases_eq, or_left, or_right}
 use Rattle.std.proofs.lemmas.List.FromFn.{length-map-range_with_len, get_or-map-range_with_len}
 use Rattle.std.proofs.lemmas.List.{ext_get_or}
-use Rattle.std.proofs.lemmas.Bool.{cases_eq, or_left, or_right}
 use Rattle.std.proofs.lemmas.Bool.Decides.{nat_tests}
 use Rattle.image.specs.Words.{word_at, put_word}
 use Rattle.image.specs.Blocks.{weighted, check, block_word, pages, place_from}

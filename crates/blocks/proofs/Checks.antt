@@ -1,6 +1,6 @@
 -- The check of a block of which one word has changed.
 use Rattle.std.proofs.Common.{◌≡◌, ℕ, zero, suc, ◌+◌, ◌-◌, ◌*◌, ◌/◌, ◌%◌, ◌^◌, ◌<◌, ◌≤◌, List, length, sym, ap, ◌∙◌, ap₂, ⊎_elim, mul_assoc, mul-add, arith}
-use native.Mathlib.Nat.{add-mul-mod_self_right, mod-add-mod, add-mod-mod, mod-add-div'}
+use Rattle.std.proofs.Math.Nat.{add-mul-mod_self_right, mod-add-mod, add-mod-mod, mod-add-div'}
 use Rattle.std.proofs.lemmas.Bool.{cases_eq}
 use Rattle.image.specs.Words.{put_word}
 use Rattle.image.specs.Blocks.{weighted, check, block_word}

@@ -1,10 +1,8 @@
 -- What the lines make of the words below, after each change of either.
 use Rattle.std.proofs.Common.{◌≡◌, ℕ, ◌+◌, ◌%◌, ◌<◌, Bool, true, false, cond, eqb, ◌⊎◌, List, length, get_or, set, Some, None, Option, sym, refl, ap, ◌∙◌, subst, ap₂, ⊎_elim, zero-add, arith, length-set, get_or-set_other, get_or-set_same, eq-eqb, ne_eqb, eqb-true}
-use borrow.Author.Tests.{eqb-false}
-use lib.Seq.{set-get_or}
+use Rattle.std.proofs.lemmas.Bool.{eqb-false, cases_eq, cond-true, cond-false}
+use Rattle.std.proofs.lemmas.List.{set-get_or, ext_get_or, get_or-replicate}
 use Rattle.std.proofs.lemmas.List.FromFn.{get_or-map-range_with_len}
-use Rattle.std.proofs.lemmas.List.{ext_get_or, get_or-replicate}
-use Rattle.std.proofs.lemmas.Bool.{cases_eq, cond-true, cond-false}
 use Rattle.cache.specs.declared.line.Line.{Line}
 use Rattle.cache.specs.Lines.{line, empty_lines, line_of, holds, word_held, covered, over, laid, down, yielded, belongs, Placed, length_over}
 

@@ -1,6 +1,6 @@
 -- What stands in a written image, word by word.
 use Rattle.std.proofs.Common.{◌≡◌, ℕ, zero, suc, ◌+◌, ◌-◌, ◌*◌, ◌/◌, ◌%◌, ◌^◌, ◌<◌, ◌≤◌, Bool, true, false, cond, eqb, ltb, List, [], ◌∷◌, map, length, get_or, sym, refl, ap, ◌∙◌, mod-lt, arith, lit<, rules, lt-ltb}
-use lib.ListN.{length-map}
+use Rattle.std.proofs.lemmas.List.{length-map}
 use Rattle.isa.specs.Words.{cleared}
 use Rattle.isa.proofs.Words.{cleared_small}
 use Rattle.image.specs.Words.{byte_of, put_word}

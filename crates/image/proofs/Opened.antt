@@ -1,6 +1,6 @@
 -- Which bytes open, and that opening has one answer but for the block that 15 names.
 use Rattle.std.proofs.Common.{◌≡◌, ℕ, List, Ok, Err, Result, sym, refl, ap, ◌∙◌}
-use borrow.Author.Tests.{both_ways}
+use Rattle.std.proofs.lemmas.Bool.{both_ways}
 use Rattle.refusal.specs.Refusals.{Declined}
 use Rattle.isa.specs.Words.{lawful}
 use Rattle.isa.specs.Programs.{LawfulProgram, FirstUnlawful}

@@ -1,8 +1,7 @@
 -- A written image opens, and holds what was given.
 use Rattle.std.proofs.Common.{◌≡◌, ℕ, ◌+◌, ◌-◌, ◌*◌, ◌/◌, ◌%◌, ◌^◌, ◌<◌, ◌≤◌, Bool, true, false, cond, eqb, ltb, List, ◌++◌, map, length, get_or, take, drop, Ok, sym, refl, ap, ◌∙◌, subst, arith, lit<, length-append, length-drop, rules, le-ltb, lt-ltb}
-use lib.ListN.{length-map}
+use Rattle.std.proofs.lemmas.List.{length-map, ext_get_or, get_or_append_left, get_or-append_right, get_or-drop, take_at}
 use Rattle.std.proofs.lemmas.List.FromFn.{length-map-range_with_len, get_or-map-range_with_len}
-use Rattle.std.proofs.lemmas.List.{ext_get_or, get_or_append_left, get_or-append_right, get_or-drop, take_at}
 use Rattle.isa.specs.Words.{cleared}
 use Rattle.isa.specs.Programs.{LawfulProgram}
 use Rattle.isa.proofs.Words.{cleared_lawful}

@@ -1,7 +1,7 @@
 -- A register is its number.
 use Rattle.std.proofs.Common.{◌≡◌, ℕ, suc, ◌<◌, ap}
 use mathlib.Core.HLevel.{Σ_prop_path}
-use native.Mathlib.Bridge.{le_prop}
+use Rattle.std.proofs.Math.Bridge.{le_prop}
 use Rattle.isa.specs.declared.register.Register.{Register}
 
 make : (n : ℕ) × (n < 16) → Register

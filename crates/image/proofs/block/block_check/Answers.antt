@@ -1,5 +1,5 @@
 use Rattle.std.proofs.Common.{◌≡◌, ℕ, ◌+◌, ◌*◌, ◌%◌, ◌^◌, sym, ap, ◌∙◌, mul_comm, add-one, arith}
-use native.Mathlib.Nat.{add-mod}
+use Rattle.std.proofs.Math.Nat.{add-mod}
 use Rattle.image.specs.Blocks.{weighted, block_word, check}
 use Rattle.image.proofs.block.block_check.Goals as goal
 

@@ -1,5 +1,5 @@
 use Rattle.std.proofs.Common.{rules}
-use lib.ListN.{length-map}
+use Rattle.std.proofs.lemmas.List.{length-map}
 use Rattle.isa.specs.Words.{cleared}
 use Rattle.image.proofs.writing.content_word.Goals as goal
 

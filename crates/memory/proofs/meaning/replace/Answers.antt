@@ -1,5 +1,5 @@
 use Rattle.std.proofs.Common.{get_or, sym, ◌∙◌}
-use lib.Seq.{set_out}
+use Rattle.std.proofs.Math.Seq.{set_out}
 use Rattle.std.proofs.lemmas.Result.{err_from_is_err_and}
 use Rattle.memory.specs.Refusals.{of_no_word}
 use Rattle.memory.proofs.Words.{is_outside}

@@ -1,5 +1,5 @@
 use Rattle.std.proofs.Common.{ℕ, ◌<◌, ◌≤◌, List, length, sym, refl, ap, arith, length-take, drop-set-lt}
-use lib.Seq.{take-set-lt, set_out}
+use Rattle.std.proofs.Math.Seq.{take-set-lt, set_out}
 use Rattle.memory.specs.Flats.{first_words}
 use Rattle.memory.proofs.Words.{inside, outside}
 use Rattle.memory.proofs.flat.FlatMemoryDataMemory.write.Goals as goal

@@ -1,5 +1,5 @@
 use Rattle.std.proofs.Common.{◌≡◌, ℕ, ◌<◌, ◌≤◌, List, length, set, sym, refl, ap, ◌∙◌, subst, arith}
-use lib.Seq.{set_out}
+use Rattle.std.proofs.Math.Seq.{set_out}
 use Rattle.memory.proofs.Words.{inside, outside}
 use Rattle.image.specs.Format.{Contents}
 use Rattle.image.proofs.Contents.{length_words}

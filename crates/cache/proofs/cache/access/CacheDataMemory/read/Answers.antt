@@ -1,5 +1,5 @@
 use Rattle.std.proofs.Common.{◌≡◌, ◌<◌, ◌≤◌, List, length, get_or, Some, None, Ok, Option, sym, refl, ap, ◌∙◌, arith, MutBor}
-use borrow.Author.Tests.{both_ways}
+use Rattle.std.proofs.lemmas.Bool.{both_ways}
 use Rattle.memory.specs.Refusals.{of_no_word}
 use Rattle.memory.proofs.Words.{inside, outside, is_outside}
 use Rattle.cache.specs.declared.line.Line.{Line}

@@ -1,5 +1,5 @@
 use Rattle.std.proofs.Common.{◌≡◌, ◌<◌, ◌≤◌, List, length, Option, sym, refl, ap, ◌∙◌, arith, MutBor}
-use lib.Seq.{set_out}
+use Rattle.std.proofs.Math.Seq.{set_out}
 use Rattle.memory.proofs.Words.{inside, outside}
 use Rattle.cache.specs.declared.line.Line.{Line}
 use Rattle.cache.specs.Lines.{over, line_of, laid, yielded, length_over}
