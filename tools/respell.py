@@ -1,16 +1,17 @@
 #!/usr/bin/env python3
-"""Respells this repository's own names in specs/ and proofs/ as today's Rattle spells them.
+"""Respells this repository's own names as today's Rattle spells them: in specs/, proofs/, clauses, README and docs/.
 
 Run once at the top, after the kit's port.py: python3 tools/respell.py
 A definition, lemma, field or constructor whose name has a dash gets an underscore for each dash; a type or a fact (its name
-begins with a capital) gets camel case instead. Names that Rattle generates (goals and what an answer cites) are no names of ours
-and stay. Two names that would fall together, with one another or with a name that the repository has or imports, stop the script.
+begins with a capital) gets camel case instead. Names that Rattle generates are no names of ours: an answer to a goal stays, where
+its file brings the goals in as `goal`. Two names that would fall together, with one another or with a name that the repository
+has or imports, stop the script.
 """
 import glob
 import re
 import sys
 
-# What may stand next to a name in antt without being a part of it.
+# What a name in antt is made of.
 NAME = r"[^\s(){}\[\].,;:]"
 
 # The head of an item: what may stand before its name, and the name.
@@ -77,6 +78,8 @@ def turn(text, turned):
 
 def main():
     turned = table()
+    if not turned:
+        sys.exit("no name has a dash")
     for path in antt_files() + sorted(glob.glob("crates/*/src/**/*.rt", recursive=True)):
         before = open(path, encoding="utf-8").read()
         comment = "//" if path.endswith(".rt") else "--"

@@ -1,5 +1,5 @@
 // What a data memory is: words at the addresses from 0 up to its size, at most 4,096 of them.
-ghost use Rattle.std.specs.Prelude.{◌≡◌, ℕ, ◌≤◌, List, length, set, slice_set};
+ghost use Rattle.std.specs.Prelude.{◌≡◌, ℕ, ◌≤◌, List, length, slice_set};
 ghost use Rattle.refusal.specs.Refusals.{told};
 ghost use Rattle.memory.specs.Refusals.{of_no_word};
 ghost use Rattle.memory.specs.Words.{reading, writing};

@@ -1,5 +1,5 @@
 // The words in a block memory's bytes.
-ghost use Rattle.std.specs.Prelude.{◌≡◌, ℕ, ◌+◌, ◌-◌, ◌*◌, ◌%◌, ◌^◌, ◌<◌, ◌≤◌, length};
+ghost use Rattle.std.specs.Prelude.{◌≡◌, ◌+◌, ◌-◌, ◌*◌, ◌%◌, ◌^◌, ◌<◌, ◌≤◌, length};
 ghost use Rattle.image.specs.Words.{put_word};
 ghost use Rattle.image.specs.Blocks.{block_word};
 ghost use Rattle.blocks.specs.Layout.{block_of, place_of, rewritten};
