@@ -4,7 +4,7 @@ use Rattle.listing.specs.declared.text.Text.{Text}
 
 -- the bytes of a text
 abbrev pub text_of : Text → List ℕ
-text_of t = take t.len t.bytes
+text_of t = t.bytes.items
 
 -- what fits
 unfoldable pub clipped : List ℕ → List ℕ

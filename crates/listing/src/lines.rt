@@ -1,4 +1,6 @@
 // The lines of a report.
+#![tactic(auto, using(crate::proofs::Clips::lines))]
+
 ghost use Rattle.std.specs.Prelude.{◌≡◌};
 ghost use Rattle.listing.specs.Texts.{text_of};
 ghost use Rattle.listing.specs.Lines.{refusal_line, opened_line};
