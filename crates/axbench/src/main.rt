@@ -3,8 +3,7 @@
 
 use host::report;
 use image::layout::LONGEST_IMAGE;
-use std::io;
-use std::io::{Read, Write};
+use std::io::{self, Read, Write};
 
 // One byte more than the longest image has: input that reaches it is too long, whatever follows.
 const MOST_INPUT: u64 = LONGEST_IMAGE as u64 + 1;
@@ -12,6 +11,6 @@ const MOST_INPUT: u64 = LONGEST_IMAGE as u64 + 1;
 fn main(rt: HostRuntime) -> io::Result<()> {
     let mut image = Vec::new(rt.alloc());
     rt.stdin().take(MOST_INPUT).read_to_end(&mut image)?;
-    let line = report(image.as_slice());
+    let line = report(&image);
     rt.stdout().write_all(line.as_bytes())
 }

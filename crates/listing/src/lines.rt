@@ -1,4 +1,5 @@
 // The lines of a report.
+// They are put together part by part: `write!` promises its bytes only where it succeeds, and no contract of std says that it does.
 #![tactic(auto, using(crate::proofs::Clips::lines))]
 
 ghost use Rattle.std.specs.Prelude.{◌≡◌};

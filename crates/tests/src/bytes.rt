@@ -7,65 +7,62 @@ use std::test::Fail;
 
 pub const LOADC: u32 = 0x1100_0005;
 
+fn number_and_figure(fault: impl Refusal + Drop) -> (u32, usize) {
+    (fault.number(), fault.figure())
+}
+
 // The image of a program, data words and a depth.
 pub fn image_of(heap: Global, program: &[u32], words: &[u32], depth: u32) -> Result<Vec<u8>, Fail> {
     let mut bytes = vec![in heap; 0u8; 22016]?;
-    match write(program, words, depth, bytes.as_mut_slice()) {
-        Ok(len) => {
-            bytes.truncate(len);
-            Ok(bytes)
-        }
-        Err(fault) => Err(Fail::new(fault.number())),
-    }
+    let len = write(program, words, depth, &mut bytes)?;
+    bytes.truncate(len);
+    Ok(bytes)
 }
 
-// What opening answers: number and figure, 0 and 0 where it opens.
-pub fn opened(bytes: &[u8]) -> (u32, usize) {
-    match open(bytes) {
-        Ok(_) => (0, 0),
-        Err(fault) => (fault.number(), fault.figure()),
-    }
+// Opens an image; a refusal is answered as its number and figure.
+pub fn opened(bytes: &[u8]) -> Result<(), (u32, usize)> {
+    open(bytes).map_err(number_and_figure)?;
+    Ok(())
 }
 
-// What writing answers: number and figure, 0 and the length where it writes.
-pub fn written(program: &[u32], words: &[u32], depth: u32, bytes: &mut [u8]) -> (u32, usize) {
-    match write(program, words, depth, bytes) {
-        Ok(len) => (0, len),
-        Err(fault) => (fault.number(), fault.figure()),
-    }
+// Writes an image, and answers its length; a refusal is answered as its number and figure.
+pub fn written(
+    program: &[u32],
+    words: &[u32],
+    depth: u32,
+    bytes: &mut [u8],
+) -> Result<usize, (u32, usize)> {
+    write(program, words, depth, bytes).map_err(number_and_figure)
 }
 
+// The word at a place, 0 beyond the last.
 pub fn word(bytes: &[u8], i: usize) -> u32 {
-    let mut word = 0u32;
-    for byte in bytes.iter().skip(i.saturating_mul(4)).take(4) {
-        word = word.wrapping_mul(256).wrapping_add(u32::from(*byte));
-    }
-    word
+    let (words, _) = bytes.as_chunks();
+    words.get(i).map_or(0, |word| u32::from_be_bytes(*word))
 }
 
 pub fn set_word(bytes: &mut [u8], i: usize, word: u32) {
-    for (k, byte) in word.to_be_bytes().iter().enumerate() {
-        let at = i.saturating_mul(4).saturating_add(k);
-        if at < bytes.len() {
-            bytes[at] = *byte;
-        }
+    let (words, _) = bytes.as_chunks_mut();
+    if let Some(place) = words.get_mut(i) {
+        *place = word.to_be_bytes();
     }
 }
 
 // Makes the check of a block right.
-pub fn seal(bytes: &mut [u8], block: usize) {
-    let first = block.saturating_mul(128);
+fn seal(block: &mut [u8; 512]) {
+    let (words, _) = block.as_chunks();
     let mut sum = 0u32;
-    let mut weight = 1u32;
-    for i in 0..127usize {
-        sum = sum.wrapping_add(word(bytes, first.saturating_add(i)).wrapping_mul(weight));
-        weight = weight.wrapping_add(2);
+    for (word, weight) in words.iter().zip((1..254).step_by(2)) {
+        sum = sum.wrapping_add(u32::from_be_bytes(*word).wrapping_mul(weight));
     }
-    set_word(bytes, first.saturating_add(127), sum);
+    set_word(block, 127, sum);
 }
 
 // Another word in a block, under a right check.
 pub fn patch(bytes: &mut [u8], block: usize, i: usize, word: u32) {
-    set_word(bytes, block.saturating_mul(128).saturating_add(i), word);
-    seal(bytes, block);
+    let (blocks, _) = bytes.as_chunks_mut();
+    if let Some(block) = blocks.get_mut(block) {
+        set_word(block, i, word);
+        seal(block);
+    }
 }

@@ -9,7 +9,7 @@ use std::test::Fail;
 fn wrong_lengths(rt: HostRuntime) -> Result<(), Fail> {
     for len in [0usize, 1, 511, 513, 22015, 22017, 22528] {
         let bytes = vec![in rt.alloc(); 0u8; len]?;
-        assert_eq!(rt; opened(bytes.as_slice()), (14, 0));
+        assert_eq!(rt; opened(&bytes), Err((14, 0)));
     }
     Ok(())
 }
@@ -18,7 +18,7 @@ fn wrong_lengths(rt: HostRuntime) -> Result<(), Fail> {
 fn damaged_blocks(rt: HostRuntime) -> Result<(), Fail> {
     let heap = rt.alloc();
     let good = image_of(heap, &[LOADC, LOADC], &[1, 2, 3], 2)?;
-    assert_eq!(rt; opened(good.as_slice()), (0, 0));
+    assert_eq!(rt; opened(&good), Ok(()));
     for (block, i) in [
         (0usize, 0usize),
         (0, 1),
@@ -30,14 +30,14 @@ fn damaged_blocks(rt: HostRuntime) -> Result<(), Fail> {
     ] {
         let mut bytes = good.clone()?;
         let at = 128 * block + i;
-        let old = word(bytes.as_slice(), at);
-        set_word(bytes.as_mut_slice(), at, old ^ 0x0100_0000);
-        assert_eq!(rt; opened(bytes.as_slice()), (15, block));
+        let old = word(&bytes, at);
+        set_word(&mut bytes, at, old ^ 0x0100_0000);
+        assert_eq!(rt; opened(&bytes), Err((15, block)));
     }
     // a wrong number under a right check
     let mut bytes = good.clone()?;
-    patch(bytes.as_mut_slice(), 1, 0, 2);
-    assert_eq!(rt; opened(bytes.as_slice()), (15, 1));
+    patch(&mut bytes, 1, 0, 2);
+    assert_eq!(rt; opened(&bytes), Err((15, 1)));
     Ok(())
 }
 
@@ -59,13 +59,13 @@ fn wrong_counts(rt: HostRuntime) -> Result<(), Fail> {
         (2, 0xffff_ffff),
     ] {
         let mut bytes = good.clone()?;
-        patch(bytes.as_mut_slice(), 0, i, count);
-        assert_eq!(rt; opened(bytes.as_slice()), (16, 0));
+        patch(&mut bytes, 0, i, count);
+        assert_eq!(rt; opened(&bytes), Err((16, 0)));
     }
     // another count of the same blocks opens
     let mut bytes = good.clone()?;
-    patch(bytes.as_mut_slice(), 0, 2, 126);
-    assert_eq!(rt; opened(bytes.as_slice()), (0, 0));
+    patch(&mut bytes, 0, 2, 126);
+    assert_eq!(rt; opened(&bytes), Ok(()));
     Ok(())
 }
 
@@ -73,21 +73,19 @@ fn wrong_counts(rt: HostRuntime) -> Result<(), Fail> {
 fn unlawful_words_by_place(rt: HostRuntime) -> Result<(), Fail> {
     let heap = rt.alloc();
     let program = vec![in heap; LOADC; 127]?;
-    let mut bytes = image_of(heap, program.as_slice(), &[], 1)?;
-    patch(bytes.as_mut_slice(), 2, 1, 0x3312_0008);
-    assert_eq!(rt; opened(bytes.as_slice()), (3, 126));
-    patch(bytes.as_mut_slice(), 1, 126, 0x7000_0000);
+    let mut bytes = image_of(heap, &program, &[], 1)?;
+    patch(&mut bytes, 2, 1, 0x3312_0008);
+    assert_eq!(rt; opened(&bytes), Err((3, 126)));
+    patch(&mut bytes, 1, 126, 0x7000_0000);
     let fault = WordFault {
         place: 125,
         word: 0x7000_0000,
     };
-    match open(bytes.as_slice()) {
-        Ok(_) => Err(Fail::new("opened")),
-        Err(found) => {
-            assert_eq!(rt; found, ImageFault::Program(ProgramFault::Word(fault)));
-            Ok(())
-        },
-    }
+    assert_eq!(rt;
+        open(&bytes).err(),
+        Some(ImageFault::Program(ProgramFault::Word(fault)))
+    );
+    Ok(())
 }
 
 // Two faults at once give the one that is written first.
@@ -95,15 +93,15 @@ fn unlawful_words_by_place(rt: HostRuntime) -> Result<(), Fail> {
 fn the_order_of_refusals(rt: HostRuntime) -> Result<(), Fail> {
     let heap = rt.alloc();
     let mut bytes = image_of(heap, &[LOADC], &[1], 2)?;
-    patch(bytes.as_mut_slice(), 1, 1, 0);
-    assert_eq!(rt; opened(bytes.as_slice()), (3, 0));
-    patch(bytes.as_mut_slice(), 0, 3, 9);
-    assert_eq!(rt; opened(bytes.as_slice()), (16, 0));
-    set_word(bytes.as_mut_slice(), 2 * 128 + 9, 1);
-    assert_eq!(rt; opened(bytes.as_slice()), (15, 2));
+    patch(&mut bytes, 1, 1, 0);
+    assert_eq!(rt; opened(&bytes), Err((3, 0)));
+    patch(&mut bytes, 0, 3, 9);
+    assert_eq!(rt; opened(&bytes), Err((16, 0)));
+    set_word(&mut bytes, 2 * 128 + 9, 1);
+    assert_eq!(rt; opened(&bytes), Err((15, 2)));
     assert_eq!(rt;
-        opened(&bytes.as_slice()[0..bytes.len() - bytes.len() / 512]),
-        (14, 0)
+        opened(&bytes[..bytes.len() - bytes.len() / 512]),
+        Err((14, 0))
     );
     Ok(())
 }

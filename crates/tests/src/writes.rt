@@ -13,39 +13,23 @@ fn round_trip(
     data_size: usize,
     blocks: usize,
 ) -> Result<(), Fail> {
-    let mut program = vec![in heap; LOADC; program_len]?;
-    let mut words = vec![in heap; 0u32; data_size]?;
-    for (i, word) in program.iter_mut().enumerate() {
-        *word = 0x11aa_0000 + (i % 0x1_0000) as u32;
-    }
-    for (i, word) in words.iter_mut().enumerate() {
-        *word = 0xfedc_0000 + (i % 0x1_0000) as u32;
-    }
-    let bytes = image_of(heap, program.as_slice(), words.as_slice(), 8)?;
+    let program: Vec<u32> = (0x11aa_0000..).take(program_len).collect(heap)?;
+    let words: Vec<u32> = (0xfedc_0000..).take(data_size).collect(heap)?;
+    let bytes = image_of(heap, &program, &words, 8)?;
     assert_eq!(rt; bytes.len() / 512, blocks);
-    match open(bytes.as_slice()) {
-        Err(_) => Err(Fail::new("refused")),
-        Ok(image) => {
-            assert_eq!(rt; image.program_len(), program_len);
-            assert_eq!(rt; image.data_size(), data_size);
-            assert_eq!(rt; image.depth(), 8);
-            for i in 0..program_len {
-                assert_eq!(rt;
-                    image.program_word(i),
-                    Some(0x1100_0000 + (i % 0x1_0000) as u32)
-                );
-            }
-            for i in 0..data_size {
-                assert_eq!(rt;
-                    image.data_word(i),
-                    Some(0xfedc_0000 + (i % 0x1_0000) as u32)
-                );
-            }
-            assert_eq!(rt; image.program_word(program_len), None);
-            assert_eq!(rt; image.data_word(data_size), None);
-            Ok(())
-        }
+    let image = open(&bytes)?;
+    assert_eq!(rt; image.program_len(), program_len);
+    assert_eq!(rt; image.data_size(), data_size);
+    assert_eq!(rt; image.depth(), 8);
+    for (i, word) in (0x1100_0000..).take(program_len).enumerate() {
+        assert_eq!(rt; image.program_word(i), Some(word));
     }
+    for (i, word) in words.iter().enumerate() {
+        assert_eq!(rt; image.data_word(i), Some(*word));
+    }
+    assert_eq!(rt; image.program_word(program_len), None);
+    assert_eq!(rt; image.data_word(data_size), None);
+    Ok(())
 }
 
 #[test]
@@ -67,8 +51,8 @@ fn edges_open_again(rt: HostRuntime) -> Result<(), Fail> {
 #[test]
 fn checks_of_the_sum(rt: HostRuntime) -> Result<(), Fail> {
     let bytes = image_of(rt.alloc(), &[0x1100_0005, 0x1200_0007, 0x3312_0000], &[], 1)?;
-    assert_eq!(rt; word(bytes.as_slice(), 127), 16);
-    assert_eq!(rt; word(bytes.as_slice(), 255), 0xF27E_0033);
+    assert_eq!(rt; word(&bytes, 127), 16);
+    assert_eq!(rt; word(&bytes, 255), 0xF27E_0033);
     Ok(())
 }
 
@@ -81,64 +65,26 @@ fn the_order_of_refusals(rt: HostRuntime) -> Result<(), Fail> {
     let much = vec![in heap; 0u32; 4097]?;
     let most = vec![in heap; 0u32; 4096]?;
     let mut bytes = vec![in heap; 0xa5u8; 1023]?;
+    assert_eq!(rt; written(&longer, &much, 9, &mut bytes), Err((1, 0)));
+    assert_eq!(rt; written(&unlawful, &much, 0, &mut bytes), Err((2, 0)));
+    assert_eq!(rt; written(&unlawful, &much, 9, &mut bytes), Err((2, 0)));
+    assert_eq!(rt; written(&unlawful, &much, 8, &mut bytes), Err((16, 0)));
+    assert_eq!(rt; written(&unlawful, &most, 8, &mut bytes), Err((3, 0)));
     assert_eq!(rt;
-        written(longer.as_slice(), much.as_slice(), 9, bytes.as_mut_slice()),
-        (1, 0)
+        written(&[LOADC, LOADC, 0], &most, 8, &mut bytes),
+        Err((3, 2))
     );
-    assert_eq!(rt;
-        written(
-            unlawful.as_slice(),
-            much.as_slice(),
-            0,
-            bytes.as_mut_slice(),
-        ),
-        (2, 0)
-    );
-    assert_eq!(rt;
-        written(
-            unlawful.as_slice(),
-            much.as_slice(),
-            9,
-            bytes.as_mut_slice(),
-        ),
-        (2, 0)
-    );
-    assert_eq!(rt;
-        written(
-            unlawful.as_slice(),
-            much.as_slice(),
-            8,
-            bytes.as_mut_slice(),
-        ),
-        (16, 0)
-    );
-    assert_eq!(rt;
-        written(
-            unlawful.as_slice(),
-            most.as_slice(),
-            8,
-            bytes.as_mut_slice(),
-        ),
-        (3, 0)
-    );
-    assert_eq!(rt;
-        written(&[LOADC, LOADC, 0], most.as_slice(), 8, bytes.as_mut_slice()),
-        (3, 2)
-    );
-    assert_eq!(rt; written(&[LOADC], &[], 1, bytes.as_mut_slice()), (17, 0));
-    for byte in bytes.iter() {
-        assert_eq!(rt; *byte, 0xa5);
-    }
+    assert_eq!(rt; written(&[LOADC], &[], 1, &mut bytes), Err((17, 0)));
+    assert!(rt; bytes.iter().all(|byte| *byte == 0xa5));
     Ok(())
 }
 
 #[test]
 fn bytes_beyond_stay(rt: HostRuntime) -> Result<(), Fail> {
     let mut bytes = vec![in rt.alloc(); 0xa5u8; 1030]?;
-    assert_eq!(rt; written(&[LOADC], &[], 1, bytes.as_mut_slice()), (0, 1024));
-    for byte in bytes.iter().skip(1024) {
-        assert_eq!(rt; *byte, 0xa5);
-    }
-    assert_eq!(rt; opened(&bytes.as_slice()[0..1024]), (0, 0));
+    assert_eq!(rt; written(&[LOADC], &[], 1, &mut bytes), Ok(1024));
+    assert!(rt; bytes.iter().skip(1024).all(|byte| *byte == 0xa5));
+    bytes.truncate(1024);
+    assert_eq!(rt; opened(&bytes), Ok(()));
     Ok(())
 }
