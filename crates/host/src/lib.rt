@@ -1,7 +1,6 @@
 // What the workbench does with the bytes of an image.
 #![tactic(auto)]
 
-ghost use Rattle.listing.specs.Texts.{text_of};
 ghost use Rattle.host.specs.Report.{Reported};
 
 use image::opening::open;
@@ -13,7 +12,7 @@ pub mod pile;
 
 // One line that says what the image holds, or why it does not open.
 pub fn report(bytes: &[u8]) -> Text
-    ensures { Reported bytes.now (text_of result) }
+    ensures { Reported bytes.now (result) }
 {
     match open(bytes) {
         Ok(image) => opened(image.program_len(), image.data_size(), image.depth()),

@@ -3,14 +3,13 @@
 #![tactic(auto, using(crate::proofs::Clips::lines))]
 
 ghost use Rattle.std.specs.Prelude.{◌≡◌};
-ghost use Rattle.listing.specs.Texts.{text_of};
 ghost use Rattle.listing.specs.Lines.{refusal_line, opened_line};
 
 use crate::text::Text;
 
 // The line of an image that does not open: the refusal's number, and the block or place that it names.
 pub fn refusal(number: u32, place: usize) -> Text
-    ensures { text_of result ≡ refusal_line number place }
+    ensures { result ≡ refusal_line number place }
 {
     let mut text = Text::new();
     text.push_all(b"refused ");
@@ -23,7 +22,7 @@ pub fn refusal(number: u32, place: usize) -> Text
 
 // The line of an image that opens: its program's length, its data's size and its depth.
 pub fn opened(program_len: usize, data_size: usize, depth: u32) -> Text
-    ensures { text_of result ≡ opened_line program_len data_size depth }
+    ensures { result ≡ opened_line program_len data_size depth }
 {
     let mut text = Text::new();
     text.push_all(b"program ");

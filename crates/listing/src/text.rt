@@ -1,18 +1,27 @@
 // A text of at most 512 bytes. What does not fit is dropped.
 ghost use Rattle.std.specs.Prelude.{◌≡◌, ◌≤◌, [], ◌∷◌, ◌++◌, length, decimal};
-ghost use Rattle.listing.specs.Texts.{text_of, clipped};
+ghost use Rattle.listing.specs.Texts.{clipped};
 
 use arrayvec::ArrayVec;
 use itoa::Buffer;
+use std::marker::Model;
 
 #[derive(Drop)]
 pub struct Text {
     bytes: ArrayVec<u8, 512>,
 }
 
+impl Model for Text {
+    ghost use Rattle.std.specs.Prelude.{ℕ, List};
+
+    ghost Value = { List ℕ };
+
+    ghost view = { λ t. t.bytes.items };
+}
+
 impl Text {
     pub fn new() -> Text
-        ensures { text_of result ≡ [] }
+        ensures { result ≡ [] }
     {
         Text {
             bytes: ArrayVec::new(),
@@ -20,14 +29,14 @@ impl Text {
     }
 
     pub fn push(&mut self, byte: u8)
-        ensures { text_of self.new ≡ clipped (text_of self.old ++ byte ∷ []) }
+        ensures { self.new ≡ clipped (self.old ++ byte ∷ []) }
     {
         self.push_all(&[byte]);
     }
 
     #[tactic(auto, using(std::proofs::lemmas::Grind::common_steps, crate::proofs::Clips::clipped_part))]
     pub fn push_all(&mut self, bytes: &[u8])
-        ensures { text_of self.new ≡ clipped (text_of self.old ++ bytes.now) }
+        ensures { self.new ≡ clipped (self.old ++ bytes.now) }
     {
         let fits = self.bytes.remaining_capacity().min(bytes.len());
         let _ = self.bytes.try_extend_from_slice(&bytes[..fits]);
@@ -35,13 +44,13 @@ impl Text {
 
     // A number in decimal.
     pub fn push_number(&mut self, number: usize)
-        ensures { text_of self.new ≡ clipped (text_of self.old ++ decimal number) }
+        ensures { self.new ≡ clipped (self.old ++ decimal number) }
     {
         self.push_all(Buffer::new().format(number).as_bytes());
     }
 
     pub fn as_bytes(&self) -> &[u8]
-        ensures value { result.now ≡ text_of self.now }
+        ensures value { result.now ≡ self.now }
         ensures fits { length result.now ≤ 512 }
     {
         self.bytes.as_slice()
