@@ -1,5 +1,5 @@
 -- The eight operations: their codes, and what each makes of two words.
-use Rattle.std.specs.Prelude.{ℕ, ◌+◌, ◌-◌, ◌*◌, ◌/◌, ◌%◌, ◌^◌, Bool, true, false, cond, ℤ, pos, ◌-ℤ◌, ◌==◌, bit_and, bit_or, bit_xor, int_lt, nat_lt}
+use Rattle.std.specs.Prelude.{ℕ, ◌+◌, ◌-◌, ◌*◌, ◌/◌, ◌%◌, ◌^◌, Bool, true, false, if◌then◌else◌, ℤ, pos, ◌-ℤ◌, ◌==◌, bit_and, bit_or, bit_xor, int_lt, nat_lt}
 use Rattle.isa.specs.declared.operation.Operation.{Operation}
 use Rattle.isa.specs.declared.operation.Operation.TheVariants.{Add, Sub, And, Or, Xor, ShiftLeft, ShiftRight, Less}
 
@@ -17,13 +17,14 @@ code_of Less = 7
 -- the operation of a code below 8
 abbrev pub operation_of : ℕ → Operation
 operation_of n =
-    cond (n == 0) Add
-    (cond (n == 1) Sub
-    (cond (n == 2) And
-    (cond (n == 3) Or
-    (cond (n == 4) Xor
-    (cond (n == 5) ShiftLeft
-    (cond (n == 6) ShiftRight Less))))))
+  if n == 0 then Add
+  else if n == 1 then Sub
+  else if n == 2 then And
+  else if n == 3 then Or
+  else if n == 4 then Xor
+  else if n == 5 then ShiftLeft
+  else if n == 6 then ShiftRight
+  else Less
 
 -- the operation that the three lowest bits of a number name
 abbrev pub operation_at : ℕ → Operation
@@ -31,7 +32,7 @@ operation_at n = operation_of (n % 8)
 
 -- a word as a two's complement number
 abbrev pub signed : ℕ → ℤ
-signed w = cond (nat_lt w (2 ^ 31)) (pos w) (pos w -ℤ pos (2 ^ 32))
+signed w = if nat_lt w (2 ^ 31) then pos w else pos w -ℤ pos (2 ^ 32)
 
 -- shifts by a count that was found to be below 32, or not; each in its own clause, so that no large power of two is worked out
 abbrev pub shifted_left : Bool → ℕ → ℕ → ℕ
@@ -51,4 +52,4 @@ applied Or b c = bit_or b c
 applied Xor b c = bit_xor b c
 applied ShiftLeft b c = shifted_left (nat_lt c 32) b c
 applied ShiftRight b c = shifted_right (nat_lt c 32) b c
-applied Less b c = cond (int_lt (signed b) (signed c)) 1 0
+applied Less b c = if int_lt (signed b) (signed c) then 1 else 0

@@ -1,11 +1,11 @@
 -- Programs: lists of instruction words.
-use Rattle.std.specs.Prelude.{◌≡◌, ℕ, ◌+◌, ◌<◌, true, false, cond, List, [], ◌∷◌, length, Ok, Err, Result, nat_lt, slice_index}
+use Rattle.std.specs.Prelude.{◌≡◌, ℕ, ◌+◌, ◌<◌, true, false, if◌then◌else◌, List, [], ◌∷◌, length, Ok, Err, Result, nat_lt, slice_index}
 use Rattle.refusal.specs.Refusals.{Declined, refused}
 use Rattle.isa.specs.Words.{lawful}
 
 -- a program has at most 1,024 words; more give refusal 1
 abbrev pub measured : List ℕ → Result (Unit {0}) Declined
-measured ws = cond (nat_lt 1024 (length ws)) (Err (refused 1 [])) (Ok tt)
+measured ws = if nat_lt 1024 (length ws) then Err (refused 1 []) else Ok tt
 
 -- a word that holds no instruction gives refusal 3, with its place and itself
 abbrev pub unlawful_at : ℕ → ℕ → Declined
@@ -13,12 +13,12 @@ unlawful_at place w = refused 3 (place ∷ w ∷ [])
 
 -- one word at its place: accepted, or refused
 abbrev pub word_checked : ℕ → ℕ → Result (Unit {0}) Declined
-word_checked place w = cond (lawful w) (Ok tt) (Err (unlawful_at place w))
+word_checked place w = if lawful w then Ok tt else Err (unlawful_at place w)
 
 -- the same of each word in turn, up to the first that is refused; the first word of the list has the place i
 unfoldable pub checked_from : ℕ → List ℕ → Result (Unit {0}) Declined
 checked_from i [] = Ok tt
-checked_from i (w ∷ ws) = cond (lawful w) (checked_from (i + 1) ws) (Err (unlawful_at i w))
+checked_from i (w ∷ ws) = if lawful w then checked_from (i + 1) ws else Err (unlawful_at i w)
 
 -- every word of a program holds an instruction, or the first that does not gives refusal 3
 abbrev pub checked : List ℕ → Result (Unit {0}) Declined

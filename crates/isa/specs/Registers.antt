@@ -1,5 +1,5 @@
 -- The sixteen registers.
-use Rattle.std.specs.Prelude.{ℕ, ◌%◌, cond, Some, None, Option, nat_lt}
+use Rattle.std.specs.Prelude.{ℕ, ◌%◌, if◌then◌else◌, Some, None, Option, nat_lt}
 use Rattle.std.proofs.Common.{lit<, mod-lt}
 use Rattle.isa.specs.declared.register.Register.{Register}
 
@@ -9,4 +9,4 @@ register_at n = record { number = n % 16; small = mod-lt n (lit< tt) }
 
 -- the register with a number; there is none above 15
 abbrev pub numbered : ℕ → Option Register
-numbered n = cond (nat_lt n 16) (Some (register_at n)) None
+numbered n = if nat_lt n 16 then Some (register_at n) else None

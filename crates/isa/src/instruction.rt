@@ -1,14 +1,14 @@
 // Instructions and the words that hold them.
-ghost use Rattle.std.specs.Prelude.{◌≡◌, ◌^◌, ◌<◌, Some};
+ghost use Rattle.std.specs.Prelude.{◌≡◌, ◌%◌, ◌^◌, ◌<◌, Some};
 ghost use Rattle.refusal.specs.Refusals.{told};
 ghost use Rattle.isa.specs.Refusals.{of_unlawful};
-ghost use Rattle.isa.specs.Words.{packed, two_registers, read, decoded, encoded, recoded, Fitting};
+ghost use Rattle.isa.specs.Words.{kind_of, a_of, b_of, c_of, packed, read, decoded, encoded, recoded};
 
 use crate::fault::Unlawful;
 use crate::operation::Operation;
 use crate::register::Register;
 
-#[derive(Clone, Copy, PartialEq, Eq)]
+#[derive(Clone, Copy, PartialEq, Eq, Debug)]
 pub enum Instruction {
     // a becomes the number
     Loadc(Register, u16),
@@ -36,8 +36,10 @@ impl Instruction {
             1 => Ok(Instruction::Loadc(a, (word % 0x1_0000) as u16)),
             2 => Ok(Instruction::Loadpc(a)),
             3 if word % 16 < 8 => Ok(Instruction::Op(Operation::of_low_bits(word), a, b, c)),
-            kind @ 4..=6 => Ok(of_two_registers(kind, a, b)),
-            0 | 3 | 7.. => Err(Unlawful { word }),
+            4 => Ok(Instruction::Load(a, b)),
+            5 => Ok(Instruction::Store(a, b)),
+            6 => Ok(Instruction::Jz(a, b)),
+            _ => Err(Unlawful { word }),
         }
     }
 
@@ -46,53 +48,55 @@ impl Instruction {
         ensures value { result ≡ encoded self }
         ensures reads_back { decoded result ≡ Some self }
     {
-        word_of(self)
+        let r0 = Register::of_low_bits(0);
+        match self {
+            Instruction::Loadc(a, n) => pack(1, a, r0, r0, n),
+            Instruction::Loadpc(a) => pack(2, a, r0, r0, 0),
+            Instruction::Op(operation, a, b, c) => pack(3, a, b, c, operation as u16),
+            Instruction::Load(a, b) => pack(4, a, b, r0, 0),
+            Instruction::Store(a, b) => pack(5, a, b, r0, 0),
+            Instruction::Jz(a, b) => pack(6, a, b, r0, 0),
+        }
     }
 }
 
-// The kinds 4 to 6.
-fn of_two_registers(kind: u32, a: Register, b: Register) -> Instruction
-    ensures { result ≡ two_registers kind a b }
+#[tactic(auto, unfolding(crate::specs::Words::packed))]
+fn pack(kind: u32, a: Register, b: Register, c: Register, n: u16) -> u32
+    requires { kind < 16 }
+    ensures value { result ≡ packed kind a b c n }
+    ensures kind { kind_of result ≡ kind }
+    ensures a { a_of result ≡ a }
+    ensures b { b_of result ≡ b }
+    ensures c { c_of result ≡ c }
+    ensures n { result % 2 ^ 16 ≡ n }
 {
-    match kind {
-        4 => Instruction::Load(a, b),
-        5 => Instruction::Store(a, b),
-        _ => Instruction::Jz(a, b),
+    kind * 0x1000_0000
+        + u32::from(a.number()) * 0x100_0000
+        + u32::from(b.number()) * 0x10_0000
+        + u32::from(c.number()) * 0x1_0000
+        + u32::from(n)
+}
+
+impl TryFrom<u32> for Instruction {
+    type Error = Unlawful;
+
+    ghost try_from_gives = { λ word r. told of_unlawful r ≡ read word };
+
+    fn try_from(word: u32) -> Result<Instruction, Unlawful> {
+        Instruction::decode(word)
     }
 }
 
-fn word_of(instruction: Instruction) -> u32
-    ensures value { result ≡ encoded instruction }
-    ensures fitting { Fitting instruction }
-{
-    match instruction {
-        Instruction::Loadc(a, n) => pack(1, a.number(), 0, 0, n as u32),
-        Instruction::Loadpc(a) => pack(2, a.number(), 0, 0, 0),
-        Instruction::Op(operation, a, b, c) => pack(
-            3,
-            a.number(),
-            b.number(),
-            c.number(),
-            operation.code(),
-        ),
-        Instruction::Load(a, b) => pack(4, a.number(), b.number(), 0, 0),
-        Instruction::Store(a, b) => pack(5, a.number(), b.number(), 0, 0),
-        Instruction::Jz(a, b) => pack(6, a.number(), b.number(), 0, 0),
-    }
-}
+impl From<Instruction> for u32 {
+    ghost from_gives = { λ i word. (word ≡ encoded i) × (decoded word ≡ Some i) };
 
-fn pack(kind: u32, a: u8, b: u8, c: u8, n: u32) -> u32
-    requires kind { kind < 16 }
-    requires a { a < 16 }
-    requires b { b < 16 }
-    requires c { c < 16 }
-    requires n { n < 2 ^ 16 }
-    ensures { result ≡ packed kind a b c n }
-{
-    kind * 0x1000_0000 + a as u32 * 0x100_0000 + b as u32 * 0x10_0000 + c as u32 * 0x1_0000 + n
+    fn from(instruction: Instruction) -> u32 {
+        instruction.encode()
+    }
 }
 
 // The word with its spare bits 0.
+#[tactic(auto, unfolding(crate::specs::Words::lawful, crate::specs::Words::packed))]
 pub fn clear_spare_bits(word: u32) -> Result<u32, Unlawful>
     ensures { told of_unlawful result ≡ recoded word }
 {

@@ -1,32 +1,25 @@
-// What each instruction reads, writes and does. The values of its operands are given as `first` and `second`,
-// in the order in which `operands` names their registers, 0 where there is none.
-ghost use Rattle.std.specs.Prelude.{◌≡◌, ℕ, false, Some, None};
-ghost use Rattle.isa.specs.Meanings.{is_jump, target_of, both, operands_of, following, early_value, executed_value, next_address, access_of};
+// What each instruction reads, writes and does. The values of its operands are given as `operands` names their registers,
+// 0 where there is none.
+ghost use Rattle.std.specs.Prelude.{◌≡◌, ℕ, false, Some};
+ghost use Rattle.isa.specs.Meanings.{is_jump, target_of, operands_of, following, early_value, executed_value, next_address, access_of};
 
 use crate::instruction::Instruction;
 use crate::register::Register;
 
-// The registers that an instruction reads, in the order a, b, c.
-#[derive(Clone, Copy)]
-pub struct Operands {
-    pub first: Option<Register>,
-    pub second: Option<Register>,
+// What there is for each of the two operands of an instruction, in the order a, b, c.
+#[derive(Clone, Copy, PartialEq, Eq, Debug)]
+pub struct Operands<T> {
+    pub first: T,
+    pub second: T,
 }
 
 // What an instruction does at the data memory.
-#[derive(Clone, Copy, PartialEq, Eq)]
+#[derive(Clone, Copy, PartialEq, Eq, Debug)]
 pub enum Access {
-    Nothing,
     // reads the word at an address
     Read(u32),
     // at an address writes a word
     Write(u32, u32),
-}
-
-fn reads(first: Option<Register>, second: Option<Register>) -> Operands
-    ensures { result ≡ both first second }
-{
-    Operands { first, second }
 }
 
 impl Instruction {
@@ -50,17 +43,19 @@ impl Instruction {
         }
     }
 
-    pub fn operands(self) -> Operands
+    // The registers that the instruction reads.
+    pub fn operands(self) -> Operands<Option<Register>>
         ensures { result ≡ operands_of self }
     {
-        match self {
-            Instruction::Loadc(_, _) => reads(None, None),
-            Instruction::Loadpc(_) => reads(None, None),
-            Instruction::Op(_, _, b, c) => reads(Some(b), Some(c)),
-            Instruction::Load(_, b) => reads(Some(b), None),
-            Instruction::Store(a, b) => reads(Some(a), Some(b)),
-            Instruction::Jz(a, b) => reads(Some(a), Some(b)),
-        }
+        let (first, second) = match self {
+            Instruction::Loadc(_, _) => (None, None),
+            Instruction::Loadpc(_) => (None, None),
+            Instruction::Op(_, _, b, c) => (Some(b), Some(c)),
+            Instruction::Load(_, b) => (Some(b), None),
+            Instruction::Store(a, b) => (Some(a), Some(b)),
+            Instruction::Jz(a, b) => (Some(a), Some(b)),
+        };
+        Operands { first, second }
     }
 
     // The value that is known from the instruction and its address alone.
@@ -68,41 +63,41 @@ impl Instruction {
         ensures { result ≡ early_value self address }
     {
         match self {
-            Instruction::Loadc(_, n) => Some(n as u32),
+            Instruction::Loadc(_, n) => Some(u32::from(n)),
             Instruction::Loadpc(_) => Some(address),
             _ => None,
         }
     }
 
     // The value that is known once the instruction is executed: the early one, or that of the operation.
-    pub fn executed_value(self, address: u32, first: u32, second: u32) -> Option<u32>
-        ensures value { result ≡ executed_value self address first second }
+    pub fn executed_value(self, address: u32, values: Operands<u32>) -> Option<u32>
+        ensures value { result ≡ executed_value self address values }
         ensures early { (v : ℕ) → early_value self address ≡ Some v → result ≡ Some v }
     {
         match self {
-            Instruction::Op(operation, _, _, _) => Some(operation.apply(first, second)),
+            Instruction::Op(operation, _, _, _) => Some(operation.apply(values.first, values.second)),
             _ => self.early_value(address),
         }
     }
 
     // The address of the instruction that follows.
-    pub fn next_address(self, address: u32, first: u32, second: u32) -> u32
-        ensures value { result ≡ next_address self address first second }
+    pub fn next_address(self, address: u32, values: Operands<u32>) -> u32
+        ensures value { result ≡ next_address self address values }
         ensures straight { is_jump self ≡ false → result ≡ following address }
     {
         match self {
-            Instruction::Jz(_, _) if first == 0 => second,
+            Instruction::Jz(_, _) if values.first == 0 => values.second,
             _ => address.wrapping_add(1),
         }
     }
 
-    pub fn access(self, first: u32, second: u32) -> Access
-        ensures { result ≡ access_of self first second }
+    pub fn access(self, values: Operands<u32>) -> Option<Access>
+        ensures { result ≡ access_of self values }
     {
         match self {
-            Instruction::Load(_, _) => Access::Read(first),
-            Instruction::Store(_, _) => Access::Write(first, second),
-            _ => Access::Nothing,
+            Instruction::Load(_, _) => Some(Access::Read(values.first)),
+            Instruction::Store(_, _) => Some(Access::Write(values.first, values.second)),
+            _ => None,
         }
     }
 }

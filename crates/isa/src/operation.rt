@@ -2,7 +2,7 @@
 ghost use Rattle.std.specs.Prelude.{◌≡◌};
 ghost use Rattle.isa.specs.Operations.{operation_at, code_of, applied};
 
-#[derive(Clone, Copy, PartialEq, Eq)]
+#[derive(Clone, Copy, PartialEq, Eq, Debug)]
 pub enum Operation {
     Add,
     Sub,
@@ -55,5 +55,13 @@ impl Operation {
                 0
             },
         }
+    }
+}
+
+impl From<Operation> for u32 {
+    ghost from_gives = { λ operation code. code ≡ code_of operation };
+
+    fn from(operation: Operation) -> u32 {
+        operation.code()
     }
 }

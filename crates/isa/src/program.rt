@@ -21,6 +21,7 @@ pub fn check_length(words: &[u32]) -> Result<(), ProgramFault>
 }
 
 // Whether a word holds an instruction.
+#[tactic(auto, unfolding(crate::specs::Words::lawful))]
 pub fn is_lawful(word: u32) -> bool
     ensures { result ≡ lawful word }
 {
@@ -39,6 +40,7 @@ pub fn check_word(place: usize, word: u32) -> Result<(), WordFault>
 }
 
 // Each word in turn, up to the first that holds no instruction.
+#[tactic(auto, using(crate::proofs::Programs::checked_lawful, crate::proofs::Programs::checked_unlawful))]
 pub fn check_words(words: &[u32]) -> Result<(), WordFault>
     ensures answer { told of_word result ≡ checked words.now }
     ensures first { MatchResult result (λ _. LawfulProgram words.now) (λ f. FirstUnlawful words.now f.place f.word) }

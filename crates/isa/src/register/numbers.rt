@@ -32,3 +32,11 @@ impl Register {
         self.number
     }
 }
+
+impl From<Register> for u8 {
+    ghost from_gives = { λ register number. (number ≡ register.number) × (number < 16) };
+
+    fn from(register: Register) -> u8 {
+        register.number()
+    }
+}
