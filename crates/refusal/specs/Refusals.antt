@@ -1,5 +1,6 @@
 -- What a declined call says.
-use Rattle.std.specs.Prelude.{ℕ, List, Ok, Err, Result, slice_index}
+use Rattle.std.specs.Prelude.{ℕ, List, Result, slice_index}
+use Rattle.std.specs.Result.{result_map_both}
 
 -- a refusal by its number and its figures
 pub data Declined : Type 0 where
@@ -15,5 +16,4 @@ first_figure (refused n fs) = slice_index fs 0
 
 -- an answer with its refusal told by number and figures
 abbrev pub told : {A E : Type 0} → (E → Declined) → Result A E → Result A Declined
-told f (Ok x) = Ok x
-told f (Err e) = Err (f e)
+told f r = result_map_both (λ x. x) f r
