@@ -1,5 +1,5 @@
 -- Programs: lists of instruction words.
-use Rattle.std.specs.Prelude.{◌≡◌, ℕ, ◌+◌, ◌<◌, true, false, if◌then◌else◌, List, [], ◌∷◌, length, Ok, Err, Result, nat_lt, slice_index}
+use Rattle.std.specs.Prelude.{◌≡◌, ℕ, ◌+◌, ◌<◌, IsTrue, IsFalse, if◌then◌else◌, List, [], ◌∷◌, length, Ok, Err, Result, nat_lt, slice_index}
 use Rattle.refusal.specs.Refusals.{Declined, refused}
 use Rattle.isa.specs.Words.{lawful}
 
@@ -26,7 +26,7 @@ checked ws = checked_from 0 ws
 
 -- the first n words hold instructions
 abbrev pub LawfulBelow : List ℕ → ℕ → Type 0
-LawfulBelow ws n = (k : ℕ) → k < n → lawful (slice_index ws k) ≡ true
+LawfulBelow ws n = (k : ℕ) → k < n → IsTrue (lawful (slice_index ws k))
 
 -- every word holds an instruction
 abbrev pub LawfulProgram : List ℕ → Type 0
@@ -36,5 +36,5 @@ LawfulProgram ws = LawfulBelow ws (length ws)
 pub record FirstUnlawful (ws : List ℕ) (place w : ℕ) : Type 0 where
   pub inside : place < length ws
   pub word : slice_index ws place ≡ w
-  pub unlawful : lawful w ≡ false
+  pub unlawful : IsFalse (lawful w)
   pub before : LawfulBelow ws place

@@ -70,10 +70,10 @@ fn pack(kind: u32, a: Register, b: Register, c: Register, n: u16) -> u32
     ensures c { c_of result ≡ c }
     ensures n { result % 2 ^ 16 ≡ n }
 {
-    kind * 0x1000_0000
-        + u32::from(a.number()) * 0x100_0000
-        + u32::from(b.number()) * 0x10_0000
-        + u32::from(c.number()) * 0x1_0000
+    (kind << 28)
+        + (u32::from(a.number()) << 24)
+        + (u32::from(b.number()) << 20)
+        + (u32::from(c.number()) << 16)
         + u32::from(n)
 }
 

@@ -1,6 +1,6 @@
 // What each instruction reads, writes and does. The values of its operands are given as `operands` names their registers,
 // 0 where there is none.
-ghost use Rattle.std.specs.Prelude.{◌≡◌, ℕ, false, Some};
+ghost use Rattle.std.specs.Prelude.{◌≡◌, IsFalse, IfSome, Some};
 ghost use Rattle.isa.specs.Meanings.{is_jump, target_of, operands_of, following, early_value, executed_value, next_address, access_of};
 
 use crate::instruction::Instruction;
@@ -72,7 +72,7 @@ impl Instruction {
     // The value that is known once the instruction is executed: the early one, or that of the operation.
     pub fn executed_value(self, address: u32, values: Operands<u32>) -> Option<u32>
         ensures value { result ≡ executed_value self address values }
-        ensures early { (v : ℕ) → early_value self address ≡ Some v → result ≡ Some v }
+        ensures early { IfSome (early_value self address) (λ v. result ≡ Some v) }
     {
         match self {
             Instruction::Op(operation, _, _, _) => Some(operation.apply(values.first, values.second)),
@@ -83,7 +83,7 @@ impl Instruction {
     // The address of the instruction that follows.
     pub fn next_address(self, address: u32, values: Operands<u32>) -> u32
         ensures value { result ≡ next_address self address values }
-        ensures straight { is_jump self ≡ false → result ≡ following address }
+        ensures straight { IsFalse (is_jump self) → result ≡ following address }
     {
         match self {
             Instruction::Jz(_, _) if values.first == 0 => values.second,

@@ -47,13 +47,9 @@ impl Operation {
             Operation::And => b & c,
             Operation::Or => b | c,
             Operation::Xor => b ^ c,
-            Operation::ShiftLeft => if c < 32 { b << c } else { 0 },
-            Operation::ShiftRight => if c < 32 { b >> c } else { 0 },
-            Operation::Less => if b.cast_signed() < c.cast_signed() {
-                1
-            } else {
-                0
-            },
+            Operation::ShiftLeft => b.checked_shl(c).unwrap_or(0),
+            Operation::ShiftRight => b.checked_shr(c).unwrap_or(0),
+            Operation::Less => u32::from(b.cast_signed() < c.cast_signed()),
         }
     }
 }
