@@ -1,10 +1,8 @@
 -- The check of a program answers for its first unlawful word.
-use Rattle.std.proofs.Common.{◌≡◌, ℕ, zero, suc, ◌+◌, ◌<◌, ◌≤◌, Bool, true, false, cond, ltb, List, [], ◌∷◌, length, get_or, Ok, Err, Result, refl, ap, ◌∙◌, arith, rules, ltb-false, ltb-true}
-use Rattle.std.proofs.lemmas.Grind.{common_steps}
-use Rattle.refusal.specs.Refusals.{Declined, refused}
+use Rattle.std.proofs.Common.{◌≡◌, ℕ, zero, suc, ◌+◌, ◌<◌, ◌≤◌, true, List, [], ◌∷◌, length, get_or, Ok, Err, refl, arith, rules}
 use Rattle.isa.specs.declared.fault.WordFault.{WordFault}
 use Rattle.isa.specs.declared.fault.ProgramFault.{ProgramFault}
-use Rattle.isa.specs.declared.fault.ProgramFault.TheVariants.{TooLong, Word}
+use Rattle.isa.specs.declared.fault.ProgramFault.TheVariants.{TooLong}
 use Rattle.isa.specs.Refusals.{of_word, of_program}
 use Rattle.isa.specs.Words.{lawful}
 use Rattle.isa.specs.Programs.{measured, checked, checked_from, word_checked, unlawful_at, LawfulBelow, LawfulProgram, FirstUnlawful}
@@ -19,8 +17,8 @@ unfolding checked_from
 checked_from-unlawful i p w n [] f e = absurd (omega arith)
 checked_from-unlawful i zero w n (v ∷ ws) f e = search rules
 checked_from-unlawful i (suc p) w n (v ∷ ws) f e =
-    rw (f.before 0 (omega arith))
-      (checked_from-unlawful (i + 1) p w n ws (record { inside = omega arith; word = f.word; unlawful = f.unlawful; before = λ k l. f.before (suc k) (omega arith) }) (omega arith))
+    let rest : FirstUnlawful ws p w = record { inside = omega arith; word = f.word; unlawful = f.unlawful; before = λ k l. f.before (suc k) (omega arith) } in
+    grind (arith, f.before 0, checked_from-unlawful (i + 1) p w n ws rest)
 
 pub checked_lawful : (ws : List ℕ) → LawfulProgram ws → checked ws ≡ Ok tt
 checked_lawful ws h = checked_from-lawful 0 ws h

@@ -1,5 +1,5 @@
 -- The eight operations: their codes, and what each makes of two words.
-use Rattle.std.specs.Prelude.{ℕ, ◌+◌, ◌-◌, ◌*◌, ◌/◌, ◌%◌, ◌^◌, Bool, true, false, if◌then◌else◌, ℤ, pos, ◌-ℤ◌, ◌==◌, bit_and, bit_or, bit_xor, int_lt, nat_lt}
+use Rattle.std.specs.Prelude.{ℕ, ◌+◌, ◌-◌, ◌*◌, ◌/◌, ◌%◌, ◌^◌, if◌then◌else◌, ℤ, pos, ◌-ℤ◌, ◌==◌, bit_and, bit_or, bit_xor, int_lt, nat_lt}
 use Rattle.isa.specs.declared.operation.Operation.{Operation}
 use Rattle.isa.specs.declared.operation.Operation.TheVariants.{Add, Sub, And, Or, Xor, ShiftLeft, ShiftRight, Less}
 
@@ -17,14 +17,14 @@ code_of Less = 7
 -- the operation of a code below 8
 abbrev pub operation_of : ℕ → Operation
 operation_of n =
-  if n == 0 then Add
-  else if n == 1 then Sub
-  else if n == 2 then And
-  else if n == 3 then Or
-  else if n == 4 then Xor
-  else if n == 5 then ShiftLeft
-  else if n == 6 then ShiftRight
-  else Less
+    if n == 0 then Add
+    else if n == 1 then Sub
+    else if n == 2 then And
+    else if n == 3 then Or
+    else if n == 4 then Xor
+    else if n == 5 then ShiftLeft
+    else if n == 6 then ShiftRight
+    else Less
 
 -- the operation that the three lowest bits of a number name
 abbrev pub operation_at : ℕ → Operation
@@ -34,15 +34,6 @@ operation_at n = operation_of (n % 8)
 abbrev pub signed : ℕ → ℤ
 signed w = if nat_lt w (2 ^ 31) then pos w else pos w -ℤ pos (2 ^ 32)
 
--- shifts by a count that was found to be below 32, or not; each in its own clause, so that no large power of two is worked out
-abbrev pub shifted_left : Bool → ℕ → ℕ → ℕ
-shifted_left true b c = b * 2 ^ c % 2 ^ 32
-shifted_left false b c = 0
-
-abbrev pub shifted_right : Bool → ℕ → ℕ → ℕ
-shifted_right true b c = b / 2 ^ c
-shifted_right false b c = 0
-
 -- what an operation makes of the words b and c
 abbrev pub applied : Operation → ℕ → ℕ → ℕ
 applied Add b c = (b + c) % 2 ^ 32
@@ -50,6 +41,6 @@ applied Sub b c = (b + 2 ^ 32 - c) % 2 ^ 32
 applied And b c = bit_and b c
 applied Or b c = bit_or b c
 applied Xor b c = bit_xor b c
-applied ShiftLeft b c = shifted_left (nat_lt c 32) b c
-applied ShiftRight b c = shifted_right (nat_lt c 32) b c
+applied ShiftLeft b c = if nat_lt c 32 then b * 2 ^ c % 2 ^ 32 else 0
+applied ShiftRight b c = if nat_lt c 32 then b / 2 ^ c else 0
 applied Less b c = if int_lt (signed b) (signed c) then 1 else 0

@@ -24,13 +24,13 @@ c_of w = register_at (w / 2 ^ 16)
 -- the instruction that a word holds; spare bits are ignored, and every other kind or operation is unlawful
 abbrev pub decoded : ℕ → Option Instruction
 decoded w =
-  if kind_of w == 1 then Some (Loadc (a_of w) (w % 2 ^ 16))
-  else if kind_of w == 2 then Some (Loadpc (a_of w))
-  else if kind_of w == 3 then if nat_lt (w % 16) 8 then Some (Op (operation_at w) (a_of w) (b_of w) (c_of w)) else None
-  else if kind_of w == 4 then Some (Load (a_of w) (b_of w))
-  else if kind_of w == 5 then Some (Store (a_of w) (b_of w))
-  else if kind_of w == 6 then Some (Jz (a_of w) (b_of w))
-  else None
+    if kind_of w == 1 then Some (Loadc (a_of w) (w % 2 ^ 16))
+    else if kind_of w == 2 then Some (Loadpc (a_of w))
+    else if kind_of w == 3 then (if nat_lt (w % 16) 8 then Some (Op (operation_at w) (a_of w) (b_of w) (c_of w)) else None)
+    else if kind_of w == 4 then Some (Load (a_of w) (b_of w))
+    else if kind_of w == 5 then Some (Store (a_of w) (b_of w))
+    else if kind_of w == 6 then Some (Jz (a_of w) (b_of w))
+    else None
 
 -- a word that holds an instruction
 unfoldable pub lawful : ℕ → Bool
@@ -60,10 +60,10 @@ encoded (Jz a b) = packed 6 a b r0 0
 -- a word with its spare bits 0: of Loadc a and n stay, of Loadpc a, of Op a, b, c and the operation, of the others a and b
 abbrev pub cleared : ℕ → ℕ
 cleared w =
-  if kind_of w == 1 then w / 2 ^ 24 * 2 ^ 24 + w % 2 ^ 16
-  else if kind_of w == 2 then w / 2 ^ 24 * 2 ^ 24
-  else if kind_of w == 3 then w / 2 ^ 16 * 2 ^ 16 + w % 16
-  else w / 2 ^ 20 * 2 ^ 20
+    if kind_of w == 1 then w / 2 ^ 24 * 2 ^ 24 + w % 2 ^ 16
+    else if kind_of w == 2 then w / 2 ^ 24 * 2 ^ 24
+    else if kind_of w == 3 then w / 2 ^ 16 * 2 ^ 16 + w % 16
+    else w / 2 ^ 20 * 2 ^ 20
 
 -- reading a word and writing it again clears its spare bits, or gives refusal 3
 abbrev pub recoded : ℕ → Result ℕ Declined

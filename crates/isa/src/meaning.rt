@@ -74,8 +74,9 @@ impl Instruction {
         ensures value { result ≡ executed_value self address values }
         ensures early { IfSome (early_value self address) (λ v. result ≡ Some v) }
     {
+        let Operands { first, second } = values;
         match self {
-            Instruction::Op(operation, _, _, _) => Some(operation.apply(values.first, values.second)),
+            Instruction::Op(operation, _, _, _) => Some(operation.apply(first, second)),
             _ => self.early_value(address),
         }
     }

@@ -1,7 +1,7 @@
 // Instruction words.
 use isa::fault::{Unlawful, WordFault};
 use isa::instruction::{Instruction, clear_spare_bits};
-use isa::meaning::Access;
+use isa::meaning::{Access, Operands};
 use isa::operation::Operation;
 use isa::program::{check_length, check_words};
 use isa::register::Register;
@@ -10,7 +10,9 @@ use std::process::Abort;
 use std::test::Fail;
 
 fn reads(rt: &impl Abort, word: u32, instruction: Instruction) {
-    assert!(rt; Instruction::decode(word) == Ok(instruction));
+    assert_eq!(rt; Instruction::decode(word), Ok(instruction));
+    assert_eq!(rt; Instruction::try_from(word), Ok(instruction));
+    assert_eq!(rt; u32::from(instruction), word);
 }
 
 #[test]
@@ -41,7 +43,7 @@ fn unlawful_words(rt: HostRuntime) {
         0xf000_0000,
         0xffff_ffff,
     ] {
-        assert!(rt; Instruction::decode(word) == Err(Unlawful { word }));
+        assert_eq!(rt; Instruction::decode(word), Err(Unlawful { word }));
     }
 }
 
@@ -82,6 +84,11 @@ fn operations(rt: HostRuntime) {
     for (operation, b, c, value) in values {
         assert_eq!(rt; operation.apply(b, c), value);
     }
+    assert_eq!(rt; u32::from(Operation::Less), 7);
+}
+
+fn values(first: u32, second: u32) -> Operands<u32> {
+    Operands { first, second }
 }
 
 #[test]
@@ -89,13 +96,27 @@ fn meanings(rt: HostRuntime) {
     let r1 = Register::of_low_bits(1);
     let r2 = Register::of_low_bits(2);
     let jump = Instruction::Jz(r1, r2);
-    assert_eq!(rt; jump.next_address(7, 0, 40), 40);
-    assert_eq!(rt; jump.next_address(7, 1, 40), 8);
-    assert!(rt; jump.target() == None);
+    assert_eq!(rt; jump.next_address(7, values(0, 40)), 40);
+    assert_eq!(rt; jump.next_address(7, values(1, 40)), 8);
+    assert_eq!(rt; jump.target(), None);
+    assert_eq!(rt;
+        jump.operands(),
+        Operands {
+            first: Some(r1),
+            second: Some(r2),
+        }
+    );
     assert_eq!(rt; Instruction::Loadpc(r1).early_value(9), Some(9));
-    assert_eq!(rt; Instruction::Load(r1, r2).executed_value(9, 4, 0), None);
-    assert!(rt; Instruction::Store(r1, r2).access(4, 6) == Access::Write(4, 6));
-    assert!(rt; Register::new(16) == None);
+    assert_eq!(rt;
+        Instruction::Load(r1, r2).executed_value(9, values(4, 0)),
+        None
+    );
+    assert_eq!(rt;
+        Instruction::Store(r1, r2).access(values(4, 6)),
+        Some(Access::Write(4, 6))
+    );
+    assert_eq!(rt; Register::new(16), None);
+    assert_eq!(rt; u8::from(r2), 2);
 }
 
 #[test]
