@@ -48,6 +48,7 @@ impl Instruction {
         ensures value { result ≡ encoded self }
         ensures reads_back { decoded result ≡ Some self }
     {
+        // fills the register fields that a kind does not use
         let r0 = Register::of_low_bits(0);
         match self {
             Instruction::Loadc(a, n) => pack(1, a, r0, r0, n),
@@ -60,6 +61,7 @@ impl Instruction {
     }
 }
 
+// The word with these fields.
 #[tactic(auto, unfolding(crate::specs::Words::packed))]
 fn pack(kind: u32, a: Register, b: Register, c: Register, n: u16) -> u32
     requires { kind < 16 }

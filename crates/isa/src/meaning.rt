@@ -1,12 +1,11 @@
-// What each instruction reads, writes and does. The values of its operands are given as `operands` names their registers,
-// 0 where there is none.
+// What each instruction reads, writes and does. The value of an operand that there is not is given as 0.
 ghost use Rattle.std.specs.Prelude.{◌≡◌, IsFalse, IfSome, Some};
 ghost use Rattle.isa.specs.Meanings.{is_jump, target_of, operands_of, following, early_value, executed_value, next_address, access_of};
 
 use crate::instruction::Instruction;
 use crate::register::Register;
 
-// What there is for each of the two operands of an instruction, in the order a, b, c.
+// The registers of an instruction's two operands, in the order a, b, c, or the values in those registers.
 #[derive(Clone, Copy, PartialEq, Eq, Debug)]
 pub struct Operands<T> {
     pub first: T,
