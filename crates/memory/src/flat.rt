@@ -1,8 +1,6 @@
 // A memory over the caller's words, at most the first 4,096. Those beyond are never touched.
-ghost use Rattle.std.specs.Prelude.{◌≡◌, ℕ, List, slice_set};
-ghost use Rattle.refusal.specs.Refusals.{told};
-ghost use Rattle.memory.specs.Refusals.{of_no_word};
-ghost use Rattle.memory.specs.Words.{reading};
+ghost use Rattle.std.specs.Prelude.{◌≡◌, ℕ, List};
+ghost use Rattle.memory.specs.Words.{ReplacesWord};
 ghost use Rattle.memory.specs.Flats.{first_words, words_beyond, at_most_4096};
 
 use crate::fault::NoWord;
@@ -33,16 +31,12 @@ impl<'a> DataMemory for FlatMemory<'a> {
     ghost frame = { λ m. (m.words.ghost_name, words_beyond m.words.now) };
 
     fn read(&mut self, address: u32) -> Result<u32, NoWord> {
-        if address >= self.size() {
-            return Err(NoWord);
-        }
+        self.check_address(address)?;
         Ok(self.words[address as usize])
     }
 
     fn write(&mut self, address: u32, word: u32) -> Result<(), NoWord> {
-        if address >= self.size() {
-            return Err(NoWord);
-        }
+        self.check_address(address)?;
         self.words[address as usize] = word;
         Ok(())
     }
@@ -54,9 +48,7 @@ impl<'a> DataMemory for FlatMemory<'a> {
 
 // Replaces one of the caller's words, and answers the one that stood there.
 pub fn replace_in(words: &mut [u32], address: u32, word: u32) -> Result<u32, NoWord>
-    ensures answer { told of_no_word result ≡ reading (first_words words.old) address }
-    ensures left { first_words words.new ≡ slice_set (first_words words.old) address word }
-    ensures beyond { words_beyond words.new ≡ words_beyond words.old }
+    ensures { ReplacesWord first_words words_beyond words.old words.new address word result }
 {
     let mut memory = FlatMemory::new(words);
     replace(&mut memory, address, word)
