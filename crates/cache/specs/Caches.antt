@@ -23,3 +23,9 @@ pub record Accessed {M : Type 0} (words : M → List ℕ) (before after : Cache 
   pub below : a < length (words_below words before) → words_below words after ≡ yielded (line_of before.lines a) a (words_below words before)
   -- where the line held the address, the memory below is left alone
   pub hit : holds (line_of before.lines a) a ≡ true → after.below ≡ before.below
+
+-- a cache before and after held words are written down, and the words that this leaves below
+pub record WritesDown {M F : Type 0} (words : M → List ℕ) (frame : M → F) (before after : Cache M) (left : List ℕ) : Type 0 where
+  pub lines : after.lines ≡ before.lines
+  pub below : words_below words after ≡ left
+  pub held : frame_of frame after ≡ frame_of frame before

@@ -1,5 +1,5 @@
 -- The sixteen lines of a cache, and the words that they make of those below.
-use Rattle.std.specs.Prelude.{◌≡◌, ℕ, ◌%◌, ◌<◌, ◌≤◌, Bool, true, false, cond, List, map, length, replicate, Some, None, Option, ◌==◌, slice_index, slice_index_or, slice_set}
+use Rattle.std.specs.Prelude.{◌≡◌, ℕ, ◌%◌, ◌<◌, ◌≤◌, Bool, true, false, if◌then◌else◌, List, map, length, replicate, Some, None, Option, ◌==◌, slice_index, slice_index_or, slice_set}
 use Rattle.std.proofs.Common.{sym, subst}
 use Rattle.std.specs.List.{range_with_len}
 use Rattle.std.proofs.lemmas.List.FromFn.{length-map-range_with_len}
@@ -25,12 +25,12 @@ holds (Some l) a = l.address == a
 -- the word that a line holds for an address
 abbrev pub word_held : Option Line → ℕ → Option ℕ
 word_held None a = None
-word_held (Some l) a = cond (l.address == a) (Some l.word) None
+word_held (Some l) a = if l.address == a then Some l.word else None
 
 -- the word of an address under a line: the held one, else the one below
 abbrev pub covered : Option Line → ℕ → ℕ → ℕ
 covered None a below = below
-covered (Some l) a below = cond (l.address == a) l.word below
+covered (Some l) a below = if l.address == a then l.word else below
 
 -- the words below with the held words over them
 abbrev pub over : List (Option Line) → List ℕ → List ℕ
@@ -48,7 +48,7 @@ down (Some l) ws = slice_set ws l.address l.word
 -- the words below once a line has yielded to an address: what it held of another one is written down
 abbrev pub yielded : Option Line → ℕ → List ℕ → List ℕ
 yielded None a ws = ws
-yielded (Some l) a ws = cond (l.address == a) ws (slice_set ws l.address l.word)
+yielded (Some l) a ws = if l.address == a then ws else slice_set ws l.address l.word
 
 -- whether what a line holds belongs into the line with a number
 abbrev pub belongs : Option Line → ℕ → Bool

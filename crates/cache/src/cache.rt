@@ -1,14 +1,14 @@
 // Sixteen lines over a memory, each empty or holding an address and its word.
-ghost use Rattle.std.specs.Prelude.{◌≡◌, length};
 ghost use Rattle.cache.specs.Lines.{Placed};
 
 use crate::line::Line;
 
+const LINES: usize = 16;
+
 #[derive(Drop)]
 pub struct Cache<'a, M> {
     below: &'a mut M,
-    lines: [Option<Line>; 16],
-    ghost sized: { length lines ≡ 16 },
+    lines: [Option<Line>; LINES],
     ghost placed: { Placed lines },
 }
 

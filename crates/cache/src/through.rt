@@ -1,8 +1,5 @@
 // One access through a cache, and through two, over any memory: what the memory below holds at the end.
-ghost use Rattle.std.specs.Prelude.{◌≡◌, slice_set};
-ghost use Rattle.refusal.specs.Refusals.{told};
-ghost use Rattle.memory.specs.Refusals.{of_no_word};
-ghost use Rattle.memory.specs.Words.{reading};
+ghost use Rattle.memory.specs.Words.{ReplacesWord};
 
 use crate::cache::Cache;
 use memory::fault::NoWord;
@@ -14,9 +11,7 @@ pub fn replace_through<M: DataMemory>(
     address: u32,
     word: u32,
 ) -> Result<u32, NoWord>
-    ensures answer { told of_no_word result ≡ reading (M.DataMemory.words memory.old) address }
-    ensures left { M.DataMemory.words memory.new ≡ slice_set (M.DataMemory.words memory.old) address word }
-    ensures held { M.DataMemory.frame memory.new ≡ M.DataMemory.frame memory.old }
+    ensures { ReplacesWord M.words M.frame memory.old memory.new address word result }
 {
     let mut cache = Cache::new(memory);
     let old = replace(&mut cache, address, word);
@@ -30,9 +25,7 @@ pub fn replace_through_two<M: DataMemory>(
     address: u32,
     word: u32,
 ) -> Result<u32, NoWord>
-    ensures answer { told of_no_word result ≡ reading (M.DataMemory.words memory.old) address }
-    ensures left { M.DataMemory.words memory.new ≡ slice_set (M.DataMemory.words memory.old) address word }
-    ensures held { M.DataMemory.frame memory.new ≡ M.DataMemory.frame memory.old }
+    ensures { ReplacesWord M.words M.frame memory.old memory.new address word result }
 {
     let mut cache = Cache::new(memory);
     let old = replace_through(&mut cache, address, word);

@@ -1,8 +1,6 @@
 // A cache as a data memory.
-ghost use Rattle.std.specs.Prelude.{◌≡◌, ℕ, ◌≤◌, length, slice_index, slice_set};
-ghost use Rattle.refusal.specs.Refusals.{told};
-ghost use Rattle.memory.specs.Refusals.{of_no_word};
-ghost use Rattle.memory.specs.Words.{reading, writing};
+ghost use Rattle.std.specs.Prelude.{ℕ, slice_index};
+ghost use Rattle.memory.specs.Words.{ReadsWord, WritesWord};
 ghost use Rattle.cache.specs.Lines.{over_few};
 ghost use Rattle.cache.specs.Caches.{words_of, frame_of, Accessed};
 
@@ -11,24 +9,19 @@ use memory::fault::NoWord;
 use memory::meaning::DataMemory;
 
 impl<'a, M: DataMemory> DataMemory for Cache<'a, M> {
-    ghost words = { words_of M.DataMemory.words };
+    ghost words = { words_of M.words };
 
-    ghost few = { λ c. over_few c.lines (M.DataMemory.words c.below.now) (M.DataMemory.few c.below.now) };
+    ghost few = { λ c. over_few c.lines (M.words c.below.now) (M.few c.below.now) };
 
-    ghost Frame = { ℕ × M.DataMemory.Frame };
+    ghost Frame = { ℕ × M.Frame };
 
-    ghost frame = { frame_of M.DataMemory.frame };
+    ghost frame = { frame_of M.frame };
 
     fn read(&mut self, address: u32) -> Result<u32, NoWord>
-        ensures answer { told of_no_word result ≡ reading (words_of M.DataMemory.words self.old) address }
-        ensures kept { words_of M.DataMemory.words self.new ≡ words_of M.DataMemory.words self.old }
-        ensures held { frame_of M.DataMemory.frame self.new ≡ frame_of M.DataMemory.frame self.old }
-        ensures refused { length (words_of M.DataMemory.words self.old) ≤ address → self.new ≡ self.old }
-        ensures lines { Accessed M.DataMemory.words self.old self.new address (slice_index (words_of M.DataMemory.words self.old) address) }
+        ensures word { ReadsWord (words_of M.words) (frame_of M.frame) self.old self.new address result }
+        ensures lines { Accessed M.words self.old self.new address (slice_index (words_of M.words self.old) address) }
     {
-        if address >= self.size() {
-            return Err(NoWord);
-        }
+        self.check_address(address)?;
         if let Some(word) = self.held(address) {
             return Ok(word);
         }
@@ -39,20 +32,16 @@ impl<'a, M: DataMemory> DataMemory for Cache<'a, M> {
     }
 
     fn write(&mut self, address: u32, word: u32) -> Result<(), NoWord>
-        ensures answer { told of_no_word result ≡ writing (words_of M.DataMemory.words self.old) address }
-        ensures left { words_of M.DataMemory.words self.new ≡ slice_set (words_of M.DataMemory.words self.old) address word }
-        ensures held { frame_of M.DataMemory.frame self.new ≡ frame_of M.DataMemory.frame self.old }
-        ensures refused { length (words_of M.DataMemory.words self.old) ≤ address → self.new ≡ self.old }
-        ensures lines { Accessed M.DataMemory.words self.old self.new address word }
+        ensures word { WritesWord (words_of M.words) (frame_of M.frame) self.old self.new address word result }
+        ensures lines { Accessed M.words self.old self.new address word }
     {
-        if address >= self.size() {
-            return Err(NoWord);
-        }
+        self.check_address(address)?;
         self.make_room(address);
         self.lay(address, word);
         Ok(())
     }
 
+    #[tactic(auto, using(crate::specs::Lines::length_over))]
     fn size(&self) -> u32 {
         self.below.size()
     }

@@ -1,13 +1,11 @@
 // Making a cache, looking at its lines, and writing its words down.
 ghost use Rattle.std.specs.Prelude.{◌≡◌, ◌%◌, ◌<◌, true};
-ghost use Rattle.cache.specs.Lines.{empty_lines, line_of, holds, word_held, laid, down, yielded};
-ghost use Rattle.cache.specs.Caches.{words_below, words_of, frame_of};
+ghost use Rattle.cache.specs.Lines.{line, empty_lines, line_of, holds, word_held, laid, down, yielded};
+ghost use Rattle.cache.specs.Caches.{words_below, words_of, WritesDown};
 
-use crate::cache::Cache;
+use crate::cache::{Cache, LINES};
 use crate::line::Line;
 use memory::meaning::DataMemory;
-
-const LINES: usize = 16;
 
 // The number of the line of an address.
 fn line_number(address: u32) -> usize
@@ -22,11 +20,11 @@ impl<'a, M: DataMemory> Cache<'a, M> {
     pub fn new(below: &'a mut M) -> Cache<'a, M>
         ensures below { result.below ≡ below.entry }
         ensures lines { result.lines ≡ empty_lines }
-        ensures words { words_of M.DataMemory.words result ≡ M.DataMemory.words below.old }
+        ensures words { words_of M.words result ≡ M.words below.old }
     {
         Cache {
             below,
-            lines: [None; 16],
+            lines: [None; LINES],
         }
     }
 
@@ -41,15 +39,15 @@ impl<'a, M: DataMemory> Cache<'a, M> {
     pub(crate) fn held(&self, address: u32) -> Option<u32>
         ensures { result ≡ word_held (line_of self.now.lines address) address }
     {
-        match self.line(address) {
-            Some(line) if line.address == address => Some(line.word),
-            _ => None,
-        }
+        self.line(address)
+            .filter(|line| line.address == address)
+            .map(|line| line.word)
     }
 
     // Takes an address and its word into their line.
     pub(crate) fn lay(&mut self, address: u32, word: u32)
         ensures lines { self.new.lines ≡ laid self.old.lines address word }
+        ensures held { line_of self.new.lines address ≡ line address word }
         ensures below { self.new.below ≡ self.old.below }
     {
         self.lines[line_number(address)] = Some(Line { address, word });
@@ -57,9 +55,7 @@ impl<'a, M: DataMemory> Cache<'a, M> {
 
     // Writes down what a line holds.
     fn write_down(&mut self, line: Option<Line>)
-        ensures lines { self.new.lines ≡ self.old.lines }
-        ensures below { words_below M.DataMemory.words self.new ≡ down line (words_below M.DataMemory.words self.old) }
-        ensures held { frame_of M.DataMemory.frame self.new ≡ frame_of M.DataMemory.frame self.old }
+        ensures { WritesDown M.words M.frame self.old self.new (down line (words_below M.words self.old)) }
     {
         if let Some(line) = line {
             let _ = self.below.write(line.address, line.word);
@@ -68,10 +64,9 @@ impl<'a, M: DataMemory> Cache<'a, M> {
 
     // Lets the line of an address yield to it: what it holds of another one is written down.
     pub(crate) fn make_room(&mut self, address: u32)
-        ensures lines { self.new.lines ≡ self.old.lines }
-        ensures below { words_below M.DataMemory.words self.new ≡ yielded (line_of self.old.lines address) address (words_below M.DataMemory.words self.old) }
+        ensures down { WritesDown M.words M.frame self.old self.new
+            (yielded (line_of self.old.lines address) address (words_below M.words self.old)) }
         ensures hit { holds (line_of self.old.lines address) address ≡ true → self.new.below ≡ self.old.below }
-        ensures held { frame_of M.DataMemory.frame self.new ≡ frame_of M.DataMemory.frame self.old }
     {
         if self.held(address).is_none() {
             let yielding = self.line(address);
@@ -81,10 +76,8 @@ impl<'a, M: DataMemory> Cache<'a, M> {
 
     // Writes all held words down, and keeps the lines.
     pub fn flush(&mut self)
-        ensures lines { self.new.lines ≡ self.old.lines }
-        ensures kept { words_of M.DataMemory.words self.new ≡ words_of M.DataMemory.words self.old }
-        ensures below { words_below M.DataMemory.words self.new ≡ words_of M.DataMemory.words self.old }
-        ensures held { frame_of M.DataMemory.frame self.new ≡ frame_of M.DataMemory.frame self.old }
+        ensures down { WritesDown M.words M.frame self.old self.new (words_of M.words self.old) }
+        ensures kept { words_of M.words self.new ≡ words_of M.words self.old }
     {
         for line in self.lines {
             self.write_down(line);

@@ -1,4 +1,5 @@
-use Rattle.std.proofs.Common.{sym, refl, arith, length-take, get_or-take}
+use Rattle.std.proofs.Common.{◌<◌, length, sym, refl, arith, length-take, get_or-take}
+use Rattle.memory.specs.Flats.{first_words}
 use Rattle.memory.proofs.Words.{reads_inside, reads_outside}
 use Rattle.memory.proofs.flat.FlatMemoryDataMemory.read.Goals as goal
 
@@ -12,4 +13,6 @@ pub returns : goal.returns
 returns c =
     let ws = c.args.self.now.words.now in
     let a = c.args.address in
-    reads_inside _ _ _ _ a _ c.in_ok-check_address.ensures.inside (sym (get_or-take 4096 ws a 0 (omega (arith, length-take 4096 ws, c.in_ok-check_address.ensures.inside)))) refl refl
+    let h : a < length (first_words ws) = c.in_ok-check_address.ensures.inside in
+    let word = get_or-take 4096 ws a 0 (omega (arith, length-take 4096 ws)) in
+    reads_inside _ _ _ _ a _ h (sym word) refl refl

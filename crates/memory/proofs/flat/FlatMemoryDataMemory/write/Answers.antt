@@ -1,5 +1,6 @@
-use Rattle.std.proofs.Common.{ℕ, ◌<◌, List, ap, arith, length-take, drop-set-lt}
+use Rattle.std.proofs.Common.{ℕ, ◌<◌, List, length, ap, arith, length-take, drop-set-lt}
 use Rattle.std.proofs.Math.Seq.{take-set-lt}
+use Rattle.memory.specs.Flats.{first_words}
 use Rattle.memory.proofs.Words.{writes_inside, writes_outside}
 use Rattle.memory.proofs.flat.FlatMemoryDataMemory.write.Goals as goal
 
@@ -14,5 +15,6 @@ returns c =
     let ws = c.args.self.now.words.now in
     let a = c.args.address in
     let w = c.args.word in
-    let l : a < 4096 = omega (arith, length-take 4096 ws, c.in_ok-check_address.ensures.inside) in
-    writes_inside _ _ _ _ a w c.in_ok-check_address.ensures.inside (take-set-lt 4096 ws a w l) (ap (λ (bs : List ℕ). (c.args.self.now.words.ghost_name, bs)) (drop-set-lt 4096 ws a w l))
+    let h : a < length (first_words ws) = c.in_ok-check_address.ensures.inside in
+    let l : a < 4096 = omega (arith, length-take 4096 ws) in
+    writes_inside _ _ _ _ a w h (take-set-lt 4096 ws a w l) (ap (λ (bs : List ℕ). (c.args.self.now.words.ghost_name, bs)) (drop-set-lt 4096 ws a w l))
