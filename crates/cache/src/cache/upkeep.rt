@@ -47,7 +47,7 @@ impl<'a, M: DataMemory> Cache<'a, M> {
     // Takes an address and its word into their line.
     pub(crate) fn lay(&mut self, address: u32, word: u32)
         ensures lines { self.new.lines ≡ laid self.old.lines address word }
-        ensures held { line_of self.new.lines address ≡ line address word }
+        ensures here { line_of self.new.lines address ≡ line address word }
         ensures below { self.new.below ≡ self.old.below }
     {
         self.lines[line_number(address)] = Some(Line { address, word });

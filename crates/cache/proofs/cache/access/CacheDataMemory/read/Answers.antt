@@ -1,8 +1,6 @@
-use Rattle.std.proofs.Common.{◌≡◌, List, get_or, Option, refl, ap, ◌∙◌, arith, MutBor}
-use Rattle.std.proofs.lemmas.Bool.{both_ways}
+use Rattle.std.proofs.Common.{◌≡◌, get_or, refl, ◌∙◌, arith}
 use Rattle.memory.proofs.Words.{reads_inside, word_read, read_refused}
-use Rattle.cache.specs.declared.line.Line.{Line}
-use Rattle.cache.specs.Lines.{over, line_of, holds, laid, yielded, length_over}
+use Rattle.cache.specs.Lines.{over, line_of, laid, yielded, length_over}
 use Rattle.cache.proofs.Caches.{accessed_outside, accessed_held}
 use Rattle.cache.proofs.Lines.{hit_word, miss_word, not_held, access_kept}
 use Rattle.cache.proofs.cache.access.CacheDataMemory.read.Goals as goal
@@ -37,19 +35,12 @@ returns g c =
     let a = c.args.address in
     let w = c.in_ok-word.word in
     let h = c.in_ok-check_address.ensures.inside in
-    let read = c.in_ok-word.ensures in
-    let room = c.make_room.ensures.down in
-    let lay = c.lay.ensures in
     let miss = c.in_default.ensures in
-    let word : w ≡ get_or (over ls ws) a 0 = word_read _ _ _ _ a w read ∙ miss_word ls a ws miss h in
-    let lines : k.lines ≡ laid ls a w = lay.lines ∙ ap (λ (ms : List (Option Line)). laid ms a w) room.lines in
-    let below : words k.below.now ≡ yielded (line_of ls a) a ws =
-    ap (λ (m : MutBor g.row.M.Denot). words m.now) lay.below ∙ room.below ∙ ap (yielded (line_of ls a) a) read.kept in
-    let held =
-    ap (λ (m : MutBor g.row.M.Denot). (m.ghost_name, g.M.DataMemory.frame m.now)) lay.below
-    ∙ room.held
-    ∙ ap (λ (f : g.M.DataMemory.Frame). (cache.below.ghost_name, f)) read.held in
+    let word : w ≡ get_or (over ls ws) a 0 = word_read _ _ _ _ a w c.in_ok-word.ensures ∙ miss_word ls a ws miss h in
+    let lines : k.lines ≡ laid ls a w = cc in
+    let below : words k.below.now ≡ yielded (line_of ls a) a ws = cc in
+    let kept = access_kept ls k.lines ws (words k.below.now) a w cache.placed c.lay.ensures.here h lines below word in
     record {
-      word = reads_inside _ _ cache k a w h word (access_kept ls k.lines ws (words k.below.now) a w cache.placed lay.held h lines below word) held;
-      lines = record { lines = λ _. lines ∙ ap (laid ls a) word; below = λ _. below; hit = λ t. absurd (both_ways (holds (line_of ls a) a) (not_held (line_of ls a) a miss) t) };
+      word = reads_inside _ _ cache k a w h word kept cc;
+      lines = record { lines = λ _. cc; below = λ _. below; hit = λ held. cc (not_held (line_of ls a) a miss) };
     }
