@@ -10,6 +10,10 @@ use Rattle.blocks.proofs.Ranges.{contents_size}
 use Rattle.blocks.proofs.Changes.{Changed, write_changed, words_changed, others_changed}
 use Rattle.blocks.proofs.Images.{same_image, still_opens, data_block_still, size_still}
 
+-- it has as many words as its size says
+pub words_counted : (m : BlockMemory) → length (words_of m) ≡ m.size
+words_counted m = length_words m.bytes.now m.first m.size
+
 -- the memory's words are the image's
 pub stands_words : (m : BlockMemory) (c : Contents) → Stands m c → words_of m ≡ c.words
 stands_words m c st =
@@ -44,6 +48,11 @@ stands_still m k c st e =
       first = f ∙ st.first ∙ sym (data_block_still s t (words_of k) w.0 l same);
       size = n ∙ st.size ∙ sym (size_still s t (words_of k) w.0 l same);
     }
+
+-- and so it does once a word is written
+pub stands_written : (m k : BlockMemory) (a w : ℕ) → frame_of k ≡ frame_of m → words_of k ≡ set (words_of m) a w
+    → (c : Contents) → Stands m c → Stands k (with_words c (set c.words a w))
+stands_written m k a w e left c st = rw (← stands_words m c st, ← left) (stands_still m k c st e)
 
 -- a memory, and the same once data word p was changed
 module _ (m k : BlockMemory) (p w : ℕ) (h : p < m.size) (small : w < 2 ^ 32) (first : k.first ≡ m.first) (size : k.size ≡ m.size)

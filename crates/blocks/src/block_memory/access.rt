@@ -1,8 +1,6 @@
 // A block memory as a data memory.
-ghost use Rattle.std.specs.Prelude.{◌≡◌, ◌<◌, ◌≤◌, length, slice_set};
-ghost use Rattle.refusal.specs.Refusals.{told};
-ghost use Rattle.memory.specs.Refusals.{of_no_word};
-ghost use Rattle.memory.specs.Words.{writing};
+ghost use Rattle.std.specs.Prelude.{◌≡◌, ◌<◌, length, slice_set};
+ghost use Rattle.memory.specs.Words.{WritesWord};
 ghost use Rattle.image.specs.Format.{Contents};
 ghost use Rattle.blocks.specs.Layout.{block_of, place_of, rewritten, with_words};
 ghost use Rattle.blocks.specs.Memories.{words_of, words_few, Kept, frame_of, Stands};
@@ -21,27 +19,21 @@ impl<'a> DataMemory for BlockMemory<'a> {
     ghost frame = { frame_of };
 
     fn read(&mut self, address: u32) -> Result<u32, NoWord> {
-        if address >= self.size {
-            return Err(NoWord);
-        }
+        self.check_address(address)?;
         Ok(self.data_word(address as usize))
     }
 
     fn write(&mut self, address: u32, word: u32) -> Result<(), NoWord>
-        ensures answer { told of_no_word result ≡ writing (words_of self.old) address }
-        ensures left { words_of self.new ≡ slice_set (words_of self.old) address word }
-        ensures held { frame_of self.new ≡ frame_of self.old }
-        ensures refused { length (words_of self.old) ≤ address → self.new ≡ self.old }
+        ensures word { WritesWord words_of frame_of self.old self.new address word result }
         ensures bytes { address < length (words_of self.old) → self.new.bytes.now ≡ rewritten self.old.bytes.now (block_of self.old.first address) (place_of address) word }
         ensures image { (c : Contents) → Stands self.old c → Stands self.new (with_words c (slice_set c.words address word)) }
     {
-        if address >= self.size {
-            return Err(NoWord);
-        }
+        self.check_address(address)?;
         self.change(address as usize, word);
         Ok(())
     }
 
+    #[tactic(auto, using(crate::proofs::Standing::words_counted))]
     fn size(&self) -> u32 {
         self.size
     }

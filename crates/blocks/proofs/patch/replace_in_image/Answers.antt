@@ -1,13 +1,8 @@
-use Rattle.std.proofs.Common.{sym, ap, ◌∙◌, rules}
-use Rattle.blocks.specs.Memories.{Kept}
+use Rattle.std.proofs.Common.{rules}
 use Rattle.blocks.proofs.Patched.{replaced}
 use Rattle.blocks.proofs.patch.replace_in_image.Goals as goal
 
 pub returns : goal.returns
 returns c =
-    let m = c.new-memory.result in
-    let k = c.replace.new.memory in
     let made = c.new-memory.ensures in
-    let used = c.replace.ensures in
-    let loan = sym (ap (λ (x : Kept). x.loan) used.held ∙ ap (λ r. r.ghost_name) made.bytes) in
-    replaced c.args.bytes.now _ m k c.args.address c.args.word _ (ap (λ r. r.now) made.bytes) (search rules) made.words made.stands used.held used.left used.answer
+    replaced _ _ c.new-memory.result c.replace.new.memory _ _ _ made.bytes (λ loan. search rules) made.words made.stands c.replace.ensures.replaced

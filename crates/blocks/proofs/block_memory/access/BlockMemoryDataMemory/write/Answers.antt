@@ -1,35 +1,19 @@
-use Rattle.std.proofs.Common.{◌≡◌, ℕ, ◌<◌, ◌≤◌, List, length, set, sym, refl, ap, ◌∙◌, subst, arith}
+use Rattle.std.proofs.Common.{◌<◌, sym, refl, arith}
 use Rattle.std.proofs.Math.Seq.{set_out}
-use Rattle.memory.proofs.Words.{inside, outside}
-use Rattle.image.specs.Format.{Contents}
-use Rattle.image.proofs.Contents.{length_words}
-use Rattle.blocks.specs.declared.block_memory.BlockMemory.{BlockMemory}
-use Rattle.blocks.specs.Layout.{with_words}
-use Rattle.blocks.specs.Memories.{words_of, frame_of, Stands}
-use Rattle.blocks.proofs.Standing.{stands_words, stands_still, change_words, change_frame}
+use Rattle.memory.proofs.Words.{writes_inside}
+use Rattle.blocks.specs.Memories.{words_of}
+use Rattle.blocks.proofs.Standing.{words_counted, stands_written, change_words, change_frame}
 use Rattle.blocks.proofs.block_memory.access.BlockMemoryDataMemory.write.Goals as goal
 
--- the image after a write
-stands_written : (m k : BlockMemory) (a w : ℕ) → frame_of k ≡ frame_of m → words_of k ≡ set (words_of m) a w
-    → (c : Contents) → Stands m c → Stands k (with_words c (set c.words a w))
-stands_written m k a w e left c st =
-    subst (λ (ws : List ℕ). Stands k (with_words c ws)) (left ∙ ap (λ (ws : List ℕ). set ws a w) (stands_words m c st)) (stands_still m k c st e)
-
-pub returns-then-address-self : goal.returns-then-address-self
-returns-then-address-self c =
+pub returns-in_err-check_address-clause-image : goal.returns-in_err-check_address-clause-image
+returns-in_err-check_address-clause-image c =
     let m = c.args.self.now in
     let a = c.args.address in
-    let n = length_words m.bytes.now m.first m.size in
-    let o : length (words_of m) ≤ a = omega arith in
-    let left = sym (set_out (words_of m) a c.args.word o) in
-    record {
-      answer = sym (outside (words_of m) a tt o);
-      left = left;
-      held = refl;
-      refused = λ _. refl;
-      bytes = λ (h : a < length (words_of m)). let f : ⊥ = omega arith in absurd f;
-      image = stands_written m m a c.args.word refl left;
-    }
+    let w = c.args.word in
+    stands_written m m a w refl (sym (set_out (words_of m) a w c.in_err-check_address.ensures.outside))
+
+pub change-requires : goal.change-requires
+change-requires c = omega (arith, words_counted c.args.self.now, c.in_ok-check_address.ensures.inside)
 
 pub returns : goal.returns
 returns c =
@@ -37,16 +21,10 @@ returns c =
     let k = c.change.new.self in
     let a = c.args.address in
     let w = c.args.word in
-    let n = length_words m.bytes.now m.first m.size in
-    let h : a < m.size = c.if-address-self.false in
+    let h = c.in_ok-check_address.ensures.inside in
     let e = c.change.ensures in
-    let left = change_words m k a w h c.ranges.word.fits e.first e.size e.bytes in
-    let held = change_frame m k a w h c.ranges.word.fits e.first e.size e.bytes e.loan in
-    record {
-      answer = sym (inside (words_of m) a tt (omega arith));
-      left = left;
-      held = held;
-      refused = λ (o : length (words_of m) ≤ a). let f : ⊥ = omega arith in absurd f;
-      bytes = λ _. e.bytes;
-      image = stands_written m k a w held left;
-    }
+    let l : a < m.size = omega (arith, words_counted m, h) in
+    let small = c.ranges.word.fits in
+    let left = change_words m k a w l small e.first e.size e.bytes in
+    let held = change_frame m k a w l small e.first e.size e.bytes e.loan in
+    record { word = writes_inside _ _ m k a w h left held; bytes = λ _. e.bytes; image = stands_written m k a w held left }
