@@ -42,6 +42,6 @@ module _ (bytes : MutBor (List ℕ)) (after : List ℕ) (m k : BlockMemory) (a w
       record {
         told = λ x o. used.answer ∙ ap (λ (ws : List ℕ). reading ws a) (words x o);
         image = λ c o. rw (← image_words c o, ← lent, ← (stands c o).first, lent) kept_image;
-        opens = λ c o. rw (← image_words c o, returned) (stands_still m k c (stands c o) used.held).opens;
+        opens = λ c o. rw (← image_words c o, returned) (stands_still m k used.held c (stands c o)).opens;
         closed = λ d o. none_changed m.first bytes.now after (words_of k) (used.left ∙ ap (λ (ws : List ℕ). set ws a w) (words (Err d) o)) kept_image;
       }

@@ -69,8 +69,7 @@ impl<'a, M: DataMemory> Cache<'a, M> {
         ensures hit { holds (line_of self.old.lines address) address ≡ true → self.new.below ≡ self.old.below }
     {
         if self.held(address).is_none() {
-            let yielding = self.line(address);
-            self.write_down(yielding);
+            self.write_down(self.line(address));
         }
     }
 
