@@ -41,7 +41,7 @@ fn cached_edges<M: DataMemory>(rt: &impl Abort, memory: &mut M, size: u32) {
 fn sizes_of_flat_memories(rt: HostRuntime) -> Result<(), Fail> {
     for (len, size) in [(0usize, 0u32), (1, 1), (16, 16), (4096, 4096), (4097, 4096)] {
         let mut words = vec![in rt.alloc(); 5u32; len]?;
-        let mut memory = FlatMemory::new(words.as_mut_slice());
+        let mut memory = FlatMemory::new(&mut words);
         cached_edges(&rt, &mut memory, size);
         edges(&rt, &mut memory, size);
         for (i, word) in words.iter().enumerate() {
@@ -83,7 +83,7 @@ fn share_a_line<M: DataMemory>(rt: &impl Abort, memory: &mut M) {
 #[test]
 fn two_addresses_of_one_line(rt: HostRuntime) -> Result<(), Fail> {
     let mut words = vec![in rt.alloc(); 5u32; 32]?;
-    let mut memory = FlatMemory::new(words.as_mut_slice());
+    let mut memory = FlatMemory::new(&mut words);
     share_a_line(&rt, &mut memory);
     // the held word of address 4 was never written down
     assert_eq!(rt; memory.read(3), Ok(31));
@@ -95,9 +95,9 @@ fn two_addresses_of_one_line(rt: HostRuntime) -> Result<(), Fail> {
 fn words_replaced_at_every_layer(rt: HostRuntime) -> Result<(), Fail> {
     let heap = rt.alloc();
     let mut words = vec![in heap; 5u32; 4097]?;
-    assert_eq!(rt; replace_in(words.as_mut_slice(), 4095, 6), Ok(5));
-    assert_eq!(rt; replace_in(words.as_mut_slice(), 4096, 6), Err(NoWord));
-    let mut memory = FlatMemory::new(words.as_mut_slice());
+    assert_eq!(rt; replace_in(&mut words, 4095, 6), Ok(5));
+    assert_eq!(rt; replace_in(&mut words, 4096, 6), Err(NoWord));
+    let mut memory = FlatMemory::new(&mut words);
     assert_eq!(rt; replace_through(&mut memory, 4095, 7), Ok(6));
     assert_eq!(rt; replace_through_two(&mut memory, 4095, 8), Ok(7));
     assert_eq!(rt; replace_through_two(&mut memory, 4096, 8), Err(NoWord));
@@ -105,27 +105,20 @@ fn words_replaced_at_every_layer(rt: HostRuntime) -> Result<(), Fail> {
     assert!(rt; words.len() == 4097);
     assert_eq!(rt; words[4096], 5);
     // 127 data words, so that the last stands alone in its block
-    let mut bytes = image_of(heap, &[LOADC, LOADC], &words.as_slice()[0..127], 2)?;
-    assert_eq!(rt; replace_in_image(bytes.as_mut_slice(), 126, 9), Ok(5));
-    assert_eq!(rt; replace_data_word(bytes.as_mut_slice(), 126, 10), Ok(9));
-    assert_eq!(rt; replace_data_word(bytes.as_mut_slice(), 0, 11), Ok(5));
-    assert_eq!(rt;
-        replace_data_word(bytes.as_mut_slice(), 127, 12),
-        Err(NoWord)
-    );
-    let first = word(bytes.as_slice(), 2 * 128 + 1);
-    assert_eq!(rt; (first, word(bytes.as_slice(), 3 * 128 + 1)), (11, 10));
-    match open(bytes.as_slice()) {
-        Err(_) => Err(Fail::new("refused")),
-        Ok(image) => {
-            assert_eq!(rt; image.data_word(0), Some(11));
-            assert_eq!(rt; image.data_word(1), Some(5));
-            assert_eq!(rt; image.data_word(126), Some(10));
-            assert_eq!(rt; image.program_word(1), Some(LOADC));
-            assert_eq!(rt; (image.data_size(), image.depth()), (127, 2));
-            Ok(())
-        }
-    }
+    let mut bytes = image_of(heap, &[LOADC, LOADC], &words[0..127], 2)?;
+    assert_eq!(rt; replace_in_image(&mut bytes, 126, 9), Ok(5));
+    assert_eq!(rt; replace_data_word(&mut bytes, 126, 10), Ok(9));
+    assert_eq!(rt; replace_data_word(&mut bytes, 0, 11), Ok(5));
+    assert_eq!(rt; replace_data_word(&mut bytes, 127, 12), Err(NoWord));
+    let first = word(&bytes, 2 * 128 + 1);
+    assert_eq!(rt; (first, word(&bytes, 3 * 128 + 1)), (11, 10));
+    let image = open(&bytes).map_err(|_| Fail::new("refused"))?;
+    assert_eq!(rt; image.data_word(0), Some(11));
+    assert_eq!(rt; image.data_word(1), Some(5));
+    assert_eq!(rt; image.data_word(126), Some(10));
+    assert_eq!(rt; image.program_word(1), Some(LOADC));
+    assert_eq!(rt; (image.data_size(), image.depth()), (127, 2));
+    Ok(())
 }
 
 fn has_no_words(rt: &impl Abort, bytes: &mut [u8], before: &[u8]) {
@@ -141,10 +134,10 @@ fn block_memories_with_no_words(rt: HostRuntime) -> Result<(), Fail> {
     let heap = rt.alloc();
     let mut empty = image_of(heap, &[LOADC], &[], 1)?;
     let before = empty.clone()?;
-    has_no_words(&rt, empty.as_mut_slice(), before.as_slice());
+    has_no_words(&rt, &mut empty, &before);
     let mut damaged = image_of(heap, &[LOADC], &[1, 2, 3], 1)?;
-    set_word(damaged.as_mut_slice(), 128 + 5, 1);
+    set_word(&mut damaged, 128 + 5, 1);
     let before = damaged.clone()?;
-    has_no_words(&rt, damaged.as_mut_slice(), before.as_slice());
+    has_no_words(&rt, &mut damaged, &before);
     Ok(())
 }
