@@ -18,7 +18,7 @@ impl<'a, M: DataMemory> DataMemory for Cache<'a, M> {
     ghost frame = { frame_of M.frame };
 
     fn read(&mut self, address: u32) -> Result<u32, NoWord>
-        ensures word { ReadsWord (words_of M.words) (frame_of M.frame) self.old self.new address result }
+        ensures read { ReadsWord (words_of M.words) (frame_of M.frame) self.old self.new address result }
         ensures lines { Accessed M.words self.old self.new address (slice_index (words_of M.words self.old) address) }
     {
         self.check_address(address)?;
@@ -32,7 +32,7 @@ impl<'a, M: DataMemory> DataMemory for Cache<'a, M> {
     }
 
     fn write(&mut self, address: u32, word: u32) -> Result<(), NoWord>
-        ensures word { WritesWord (words_of M.words) (frame_of M.frame) self.old self.new address word result }
+        ensures written { WritesWord (words_of M.words) (frame_of M.frame) self.old self.new address word result }
         ensures lines { Accessed M.words self.old self.new address word }
     {
         self.check_address(address)?;

@@ -9,8 +9,7 @@ use memory::meaning::DataMemory;
 
 // The number of the line of an address.
 fn line_number(address: u32) -> usize
-    ensures value { result ≡ address % 16 }
-    ensures bound { result < 16 }
+    ensures { result ≡ address % 16 }
 {
     address as usize % LINES
 }

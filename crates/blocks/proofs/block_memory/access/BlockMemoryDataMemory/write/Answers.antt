@@ -27,4 +27,4 @@ returns c =
     let small = c.ranges.word.fits in
     let left = change_words m k a w l small e.first e.size e.bytes in
     let held = change_frame m k a w l small e.first e.size e.bytes e.loan in
-    record { word = writes_inside _ _ m k a w h left held; bytes = λ _. e.bytes; image = stands_written m k a w held left }
+    record { written = writes_inside _ _ m k a w h left held; bytes = λ _. e.bytes; image = stands_written m k a w held left }

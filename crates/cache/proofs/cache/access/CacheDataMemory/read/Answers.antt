@@ -8,8 +8,8 @@ use Rattle.cache.proofs.cache.access.CacheDataMemory.read.Goals as goal
 pub returns-in_err-check_address-clause-lines : goal.returns-in_err-check_address-clause-lines
 returns-in_err-check_address-clause-lines g c = accessed_outside g.M.DataMemory.words c.args.self.now c.args.address _ c.in_err-check_address.ensures.outside
 
-pub returns-in-Some-clause-word : goal.returns-in-Some-clause-word
-returns-in-Some-clause-word g c =
+pub returns-in-Some-clause-read : goal.returns-in-Some-clause-read
+returns-in-Some-clause-read g c =
     let cache = c.args.self.now in
     let h = c.in_ok-check_address.ensures.inside in
     let word = hit_word cache.lines c.args.address c.in-Some.word (g.M.DataMemory.words cache.below.now) c.in-Some.ensures h in
@@ -18,8 +18,8 @@ returns-in-Some-clause-word g c =
 pub returns-in-Some-clause-lines : goal.returns-in-Some-clause-lines
 returns-in-Some-clause-lines g c = accessed_held g.M.DataMemory.words c.args.self.now c.args.address c.in-Some.word c.in-Some.ensures c.in_ok-check_address.ensures.inside
 
-pub returns-in_err-word-clause-word : goal.returns-in_err-word-clause-word
-returns-in_err-word-clause-word g c =
+pub returns-in_err-word-clause-read : goal.returns-in_err-word-clause-read
+returns-in_err-word-clause-read g c =
     let cache = c.args.self.now in
     let n = length_over cache.lines (g.M.DataMemory.words cache.below.now) in
     let o = read_refused _ _ _ _ c.args.address c.in_err-word.field-0.0 c.in_err-word.ensures in
@@ -41,6 +41,6 @@ returns g c =
     let below : words k.below.now ≡ yielded (line_of ls a) a ws = cc in
     let kept = access_kept ls k.lines ws (words k.below.now) a w cache.placed c.lay.ensures.here h lines below word in
     record {
-      word = reads_inside _ _ cache k a w h word kept cc;
+      read = reads_inside _ _ cache k a w h word kept cc;
       lines = record { lines = λ _. cc; below = λ _. below; hit = λ held. cc (not_held (line_of ls a) a miss) };
     }

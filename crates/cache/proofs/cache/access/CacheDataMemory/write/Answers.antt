@@ -9,8 +9,8 @@ use Rattle.cache.proofs.cache.access.CacheDataMemory.write.Goals as goal
 pub returns-in_err-check_address-clause-lines : goal.returns-in_err-check_address-clause-lines
 returns-in_err-check_address-clause-lines g c = accessed_outside g.M.DataMemory.words c.args.self.now c.args.address c.args.word c.in_err-check_address.ensures.outside
 
-pub returns-clause-word : goal.returns-clause-word
-returns-clause-word g c =
+pub returns-clause-written : goal.returns-clause-written
+returns-clause-written g c =
     let words = words_below g.M.DataMemory.words in
     let cache = c.args.self.now in
     let ls = cache.lines in
