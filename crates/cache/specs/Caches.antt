@@ -1,5 +1,5 @@
 -- A cache by its lines and by what the memory below means.
-use Rattle.std.specs.Prelude.{◌≡◌, ℕ, ◌<◌, true, List, length}
+use Rattle.std.specs.Prelude.{◌≡◌, ℕ, ◌<◌, IsTrue, List, length}
 use Rattle.cache.specs.declared.cache.Cache.{Cache}
 use Rattle.cache.specs.Lines.{over, line_of, holds, laid, yielded}
 
@@ -22,7 +22,7 @@ pub record Accessed {M : Type 0} (words : M → List ℕ) (before after : Cache 
   -- what that line held of another address is written down
   pub below : a < length (words_below words before) → words_below words after ≡ yielded (line_of before.lines a) a (words_below words before)
   -- where the line held the address, the memory below is left alone
-  pub hit : holds (line_of before.lines a) a ≡ true → after.below ≡ before.below
+  pub hit : IsTrue (holds (line_of before.lines a) a) → after.below ≡ before.below
 
 -- a cache before and after held words are written down, and the words that this leaves below
 pub record WritesDown {M F : Type 0} (words : M → List ℕ) (frame : M → F) (before after : Cache M) (left : List ℕ) : Type 0 where

@@ -1,5 +1,5 @@
 -- The sixteen lines of a cache, and the words that they make of those below.
-use Rattle.std.specs.Prelude.{◌≡◌, ℕ, ◌%◌, ◌<◌, ◌≤◌, Bool, true, false, if◌then◌else◌, List, map, length, replicate, Some, None, Option, ◌==◌, slice_index, slice_index_or, slice_set}
+use Rattle.std.specs.Prelude.{◌≡◌, ℕ, ◌%◌, ◌<◌, ◌≤◌, Bool, true, false, IsTrue, if◌then◌else◌, List, map, length, replicate, Some, None, Option, ◌==◌, slice_index, slice_index_or, slice_set}
 use Rattle.std.proofs.Common.{sym, subst}
 use Rattle.std.specs.List.{range_with_len}
 use Rattle.std.proofs.lemmas.List.FromFn.{length-map-range_with_len}
@@ -57,7 +57,7 @@ belongs (Some l) i = l.address % 16 == i
 
 -- every address is held in its own line
 abbrev pub Placed : List (Option Line) → Type 0
-Placed ls = (i : ℕ) → i < 16 → belongs (slice_index_or ls i None) i ≡ true
+Placed ls = (i : ℕ) → i < 16 → IsTrue (belongs (slice_index_or ls i None) i)
 
 -- there are as many as below, and so few enough for a data memory
 pub length_over : (ls : List (Option Line)) (ws : List ℕ) → length (over ls ws) ≡ length ws

@@ -9,6 +9,7 @@ use crate::block_memory::BlockMemory;
 use memory::fault::NoWord;
 use memory::meaning::DataMemory;
 
+#[tactic(auto, using(crate::proofs::Standing::words_counted))]
 impl<'a> DataMemory for BlockMemory<'a> {
     ghost words = { words_of };
 
@@ -33,7 +34,6 @@ impl<'a> DataMemory for BlockMemory<'a> {
         Ok(())
     }
 
-    #[tactic(auto, using(crate::proofs::Standing::words_counted))]
     fn size(&self) -> u32 {
         self.size
     }

@@ -8,6 +8,7 @@ use crate::cache::Cache;
 use memory::fault::NoWord;
 use memory::meaning::DataMemory;
 
+#[tactic(auto, using(crate::specs::Lines::length_over, crate::proofs::Caches::accessed_outside))]
 impl<'a, M: DataMemory> DataMemory for Cache<'a, M> {
     ghost words = { words_of M.words };
 
@@ -41,7 +42,6 @@ impl<'a, M: DataMemory> DataMemory for Cache<'a, M> {
         Ok(())
     }
 
-    #[tactic(auto, using(crate::specs::Lines::length_over))]
     fn size(&self) -> u32 {
         self.below.size()
     }

@@ -1,5 +1,5 @@
 // Making a cache, looking at its lines, and writing its words down.
-ghost use Rattle.std.specs.Prelude.{◌≡◌, ◌%◌, ◌<◌, true};
+ghost use Rattle.std.specs.Prelude.{◌≡◌, ◌%◌, IsTrue};
 ghost use Rattle.cache.specs.Lines.{line, empty_lines, line_of, holds, word_held, laid, down, yielded};
 ghost use Rattle.cache.specs.Caches.{words_below, words_of, WritesDown};
 
@@ -16,6 +16,7 @@ fn line_number(address: u32) -> usize
 
 impl<'a, M: DataMemory> Cache<'a, M> {
     // A cache whose lines are empty.
+    #[tactic(auto, using(crate::proofs::Lines::over_empty))]
     pub fn new(below: &'a mut M) -> Cache<'a, M>
         ensures below { result.below ≡ below.entry }
         ensures lines { result.lines ≡ empty_lines }
@@ -65,7 +66,7 @@ impl<'a, M: DataMemory> Cache<'a, M> {
     pub(crate) fn make_room(&mut self, address: u32)
         ensures down { WritesDown M.words M.frame self.old self.new
             (yielded (line_of self.old.lines address) address (words_below M.words self.old)) }
-        ensures hit { holds (line_of self.old.lines address) address ≡ true → self.new.below ≡ self.old.below }
+        ensures hit { IsTrue (holds (line_of self.old.lines address) address) → self.new.below ≡ self.old.below }
     {
         if self.held(address).is_none() {
             self.write_down(self.line(address));

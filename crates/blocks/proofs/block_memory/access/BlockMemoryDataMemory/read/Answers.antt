@@ -4,9 +4,6 @@ use Rattle.image.proofs.Contents.{word_here}
 use Rattle.blocks.proofs.Standing.{words_counted}
 use Rattle.blocks.proofs.block_memory.access.BlockMemoryDataMemory.read.Goals as goal
 
-pub data_word-requires : goal.data_word-requires
-data_word-requires c = omega (arith, words_counted c.args.self.now, c.in_ok-check_address.ensures.inside)
-
 pub returns : goal.returns
 returns c =
     let m = c.args.self.now in

@@ -12,9 +12,6 @@ returns-in_err-check_address-clause-image c =
     let w = c.args.word in
     stands_written m m a w refl (sym (set_out (words_of m) a w c.in_err-check_address.ensures.outside))
 
-pub change-requires : goal.change-requires
-change-requires c = omega (arith, words_counted c.args.self.now, c.in_ok-check_address.ensures.inside)
-
 pub returns : goal.returns
 returns c =
     let m = c.args.self.now in

@@ -1,12 +1,9 @@
-use Rattle.std.proofs.Common.{◌≡◌, get_or, refl, ◌∙◌, arith}
-use Rattle.memory.proofs.Words.{reads_inside, word_read, read_refused}
-use Rattle.cache.specs.Lines.{over, line_of, laid, yielded, length_over}
-use Rattle.cache.proofs.Caches.{accessed_outside, accessed_held}
+use Rattle.std.proofs.Common.{◌≡◌, get_or, refl, ◌∙◌}
+use Rattle.memory.proofs.Words.{reads_inside, word_read}
+use Rattle.cache.specs.Lines.{over, line_of, laid, yielded}
+use Rattle.cache.proofs.Caches.{accessed_held}
 use Rattle.cache.proofs.Lines.{hit_word, miss_word, not_held, access_kept}
 use Rattle.cache.proofs.cache.access.CacheDataMemory.read.Goals as goal
-
-pub returns-in_err-check_address-clause-lines : goal.returns-in_err-check_address-clause-lines
-returns-in_err-check_address-clause-lines g c = accessed_outside g.M.DataMemory.words c.args.self.now c.args.address _ c.in_err-check_address.ensures.outside
 
 pub returns-in-Some-clause-read : goal.returns-in-Some-clause-read
 returns-in-Some-clause-read g c =
@@ -17,13 +14,6 @@ returns-in-Some-clause-read g c =
 
 pub returns-in-Some-clause-lines : goal.returns-in-Some-clause-lines
 returns-in-Some-clause-lines g c = accessed_held g.M.DataMemory.words c.args.self.now c.args.address c.in-Some.word c.in-Some.ensures c.in_ok-check_address.ensures.inside
-
-pub returns-in_err-word-clause-read : goal.returns-in_err-word-clause-read
-returns-in_err-word-clause-read g c =
-    let cache = c.args.self.now in
-    let n = length_over cache.lines (g.M.DataMemory.words cache.below.now) in
-    let o = read_refused _ _ _ _ c.args.address c.in_err-word.field-0.0 c.in_err-word.ensures in
-    absurd (omega (arith, c.in_ok-check_address.ensures.inside))
 
 pub returns : goal.returns
 returns g c =

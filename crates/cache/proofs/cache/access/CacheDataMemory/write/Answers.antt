@@ -2,12 +2,8 @@ use Rattle.std.proofs.Common.{◌≡◌}
 use Rattle.memory.proofs.Words.{writes_inside}
 use Rattle.cache.specs.Lines.{laid, line_of, yielded}
 use Rattle.cache.specs.Caches.{words_below}
-use Rattle.cache.proofs.Caches.{accessed_outside}
 use Rattle.cache.proofs.Lines.{access_left}
 use Rattle.cache.proofs.cache.access.CacheDataMemory.write.Goals as goal
-
-pub returns-in_err-check_address-clause-lines : goal.returns-in_err-check_address-clause-lines
-returns-in_err-check_address-clause-lines g c = accessed_outside g.M.DataMemory.words c.args.self.now c.args.address c.args.word c.in_err-check_address.ensures.outside
 
 pub returns-clause-written : goal.returns-clause-written
 returns-clause-written g c =
