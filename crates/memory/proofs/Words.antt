@@ -23,6 +23,3 @@ module _ {M F : Type 0} (words : M → List ℕ) (frame : M → F) where
   -- what the answer of a read says
   pub word_read : (m k : M) (a x : ℕ) → ReadsWord words frame m k a (Ok x) → x ≡ get_or (words m) a 0
   word_read m k a x r = grind (arith, nat_tests, r.answer)
-
-  pub read_refused : (m k : M) (a : ℕ) (e : NoWord) → ReadsWord words frame m k a (Err e) → length (words m) ≤ a
-  read_refused m k a e r = grind (arith, nat_tests, r.answer)
