@@ -19,8 +19,8 @@ pub fn replace_through<M: DataMemory>(
     old
 }
 
-// The same through a cache over a cache. A function that took the step between making and flushing would have to
-// promise what the step's own cache is before and after it, which is longer than the two lines that it would save.
+// The same through a cache over a cache.
+// (One function that took the inner step would owe what the step's own cache is before and after it, in more lines.)
 pub fn replace_through_two<M: DataMemory>(
     memory: &mut M,
     address: u32,
