@@ -1,6 +1,7 @@
 -- The check of a block of which one word has changed.
-use Rattle.std.proofs.Common.{◌≡◌, ℕ, zero, suc, ◌+◌, ◌-◌, ◌*◌, ◌/◌, ◌%◌, ◌^◌, ◌<◌, ◌≤◌, List, length, sym, ap, ◌∙◌, ap₂, ⊎_elim, mul_assoc, mul-add, arith}
-use Rattle.std.proofs.Math.Nat.{add-mul-mod_self_right, mod-add-mod, add-mod-mod, mod-add-div'}
+use Rattle.std.proofs.Common.{◌≡◌, ℕ, zero, suc, ◌+◌, ◌-◌, ◌*◌, ◌%◌, ◌^◌, ◌<◌, ◌≤◌, List, length, sym, ap, ◌∙◌, ap₂, ⊎_elim, mul-add, arith}
+use Rattle.std.proofs.Math.Nat.{add-mul-mod_self_right, mod-add-mod, add-mod-mod}
+use Rattle.std.proofs.lemmas.Nat.{mul-mod_second}
 use Rattle.std.proofs.lemmas.Bool.{cases_eq}
 use Rattle.image.specs.Words.{put_word}
 use Rattle.image.specs.Blocks.{weighted, check, block_word}
@@ -11,7 +12,7 @@ use Rattle.image.proofs.Format.{weighted_same}
 -- sums that differ in one term
 changed : (f g : ℕ → ℕ) (i n : ℕ) → i < n → ((j : ℕ) → (j ≡ i → ⊥) → g j ≡ f j)
     → weighted g n + (2 * i + 1) * f i ≡ weighted f n + (2 * i + 1) * g i
-changed f g i zero h same = let z : ⊥ = omega arith in absurd z
+changed f g i zero h same = absurd (omega arith)
 changed f g i (suc n) h same = ⊎_elim here (before (λ l. changed f g i n l same)) (cases_eq n i)
   where
     swap : (a x y : ℕ) → a + x + y ≡ a + y + x
@@ -19,7 +20,7 @@ changed f g i (suc n) h same = ⊎_elim here (before (λ l. changed f g i n l sa
 
     here : n ≡ i → weighted g (suc n) + (2 * i + 1) * f i ≡ weighted f (suc n) + (2 * i + 1) * g i
     here e =
-        let s = weighted_same g f n (λ j l. same j (λ q. let z : ⊥ = omega arith in z)) in
+        let s = weighted_same g f n (λ j l. same j (λ q. omega arith)) in
         rw (s, e) (swap (weighted f i) ((2 * i + 1) * g i) ((2 * i + 1) * f i))
 
     last : (a b x y t : ℕ) → a + x ≡ b + y → a + t + x ≡ b + t + y
@@ -31,12 +32,6 @@ changed f g i (suc n) h same = ⊎_elim here (before (λ l. changed f g i n l sa
         let p = less (omega arith) in
         let q = same n ne in
         rw q (last (weighted g n) (weighted f n) ((2 * i + 1) * f i) ((2 * i + 1) * g i) ((2 * n + 1) * f n) p)
-
--- a product modulo p, with a factor taken modulo p before
-mul_mod : (m d p : ℕ) → m * (d % p) % p ≡ m * d % p
-mul_mod m d p =
-    let e : m * d ≡ m * (d % p) + m * (d / p) * p = ap (λ (k : ℕ). m * k) (sym (mod-add-div' d p)) ∙ mul-add m (d % p) (d / p * p) ∙ ap (λ (k : ℕ). m * (d % p) + k) (sym (mul_assoc m (d / p) p)) in
-    sym (ap (λ (k : ℕ). k % p) e ∙ add-mul-mod_self_right (m * (d % p)) (m * (d / p)) p)
 
 -- the difference that one term makes
 difference : (a b m x y p : ℕ) → b + m * x ≡ a + m * y → x ≤ p → a + m * (y + p - x) ≡ b + m * p
@@ -50,7 +45,7 @@ difference a b m x y p e h =
 
 updated : (a b m x y p : ℕ) → b + m * x ≡ a + m * y → x ≤ p → (a % p + m * ((y + p - x) % p) % p) % p ≡ b % p
 updated a b m x y p e h =
-    ap (λ (k : ℕ). (a % p + k) % p) (mul_mod m (y + p - x) p)
+    ap (λ (k : ℕ). (a % p + k) % p) (mul-mod_second m (y + p - x) p)
     ∙ mod-add-mod a p (m * (y + p - x) % p)
     ∙ add-mod-mod a (m * (y + p - x)) p
     ∙ ap (λ (k : ℕ). k % p) (difference a b m x y p e h)

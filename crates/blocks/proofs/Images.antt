@@ -7,10 +7,11 @@ use Rattle.isa.specs.Programs.{LawfulProgram}
 use Rattle.image.specs.Words.{word_at}
 use Rattle.image.specs.Blocks.{check, block_word, pages, place_from, AllSound}
 use Rattle.image.specs.Format.{Contents, length_in, size_in, depth_in, data_block, word_from, words_from, program_in, data_in, contents_in}
-use Rattle.image.specs.Opening.{RightLength, RightCounts, Opening}
+use Rattle.image.specs.Whole.{RightLength, RightCounts, IsWhole}
+use Rattle.image.specs.Opening.{Opening}
 use Rattle.image.proofs.Contents.{length_words, word_here}
 use Rattle.image.proofs.Format.{check_same}
-use Rattle.image.proofs.Opened.{Whole, says, whole_opens}
+use Rattle.image.proofs.Openings.{says, whole_opens}
 use Rattle.blocks.specs.Layout.{is_data, is_check, is_open, others, Checked, SameImage, with_words, Bytes, Pinned, OpensWith}
 use Rattle.blocks.proofs.Ranges.{contents_size}
 use Rattle.blocks.proofs.Changes.{closed_before, closed_number}
@@ -59,7 +60,7 @@ same_word f n s t rest i o =
     byte : (k : ℕ) → k / 4 ≡ i → get_or t k 0 ≡ get_or s k 0
     byte k e = rest k (ap (is_open f n) e ∙ o)
 
-module _ (s t ws : List ℕ) (whole : Whole s) (many : length ws ≡ size_in s) (same : SameImage (data_block s) s t ws) where
+module _ (s t ws : List ℕ) (whole : IsWhole s) (many : length ws ≡ size_in s) (same : SameImage (data_block s) s t ws) where
   kept : (b i : ℕ) → b < data_block s → i < 128 → word_at t (128 * b + i) ≡ word_at s (128 * b + i)
   kept b i h l = same_word (data_block s) (length ws) s t same.rest (128 * b + i) (closed_before (data_block s) (length ws) b i h l)
 
@@ -124,7 +125,7 @@ module _ (s t ws : List ℕ) (whole : Whole s) (many : length ws ≡ size_in s) 
           let e : data_block s + (b - data_block s) ≡ b = omega arith in
           subst (λ (k : ℕ). block_word t k 127 ≡ check (block_word t k)) e (same.checked (b - data_block s) (rw many (omega arith)))
 
-  whole_still : Whole t
+  whole_still : IsWhole t
   whole_still = record { long = still_long; sound = still_sound; counts = still_counts; program = subst LawfulProgram (sym same_program) whole.program }
 
   contents_still : contents_in t ≡ with_words (contents_in s) ws
@@ -161,7 +162,7 @@ same_byte t u bt bu i r h e =
     on (suc zero) h p = p.1
     on (suc (suc zero)) h p = p.2
     on (suc (suc (suc zero))) h p = p.3
-    on (suc (suc (suc (suc r)))) h p = let f : ⊥ = omega arith in absurd f
+    on (suc (suc (suc (suc r)))) h p = absurd (omega arith)
 
 -- the place that an open word has
 data_place : (f n i : ℕ) → is_data f n (i / 128) (i % 128) ≡ true → (126 * (i / 128 - f) + (i % 128 - 1) < n) × (place_from f (126 * (i / 128 - f) + (i % 128 - 1)) ≡ i)
@@ -185,7 +186,7 @@ check_place f n i e =
 
 open_inner : (f n i : ℕ) → i % 128 < 127 → is_open f n i ≡ true → is_data f n (i / 128) (i % 128) ≡ true
 open_inner f n i h e =
-    ⊎_elim (λ d. d) (λ c. let p = check_place f n i c in let z : ⊥ = omega (arith, p.1) in absurd z)
+    ⊎_elim (λ d. d) (λ c. let p = check_place f n i c in absurd (omega (arith, p.1)))
     (or_cases (is_data f n (i / 128) (i % 128)) (is_check f n (i / 128) (i % 128)) e)
 
 -- two byte strings that are both the same image with these data words

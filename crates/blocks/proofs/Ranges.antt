@@ -1,14 +1,13 @@
 -- The data words of an image that opens.
-use Rattle.std.proofs.Common.{◌≡◌, ℕ, ◌+◌, List, length, Ok, Err, Result, sym, refl, ap, ◌∙◌, arith}
-use Rattle.refusal.specs.Refusals.{Declined}
+use Rattle.std.proofs.Common.{◌≡◌, ℕ, ◌+◌, List, length, refl, ap, ◌∙◌, arith}
 use Rattle.image.specs.Blocks.{pages}
-use Rattle.image.specs.Format.{Contents, length_in, size_in, data_block, data_block_of, words_from, contents_in}
-use Rattle.image.specs.Opening.{Opening}
+use Rattle.image.specs.Format.{Contents, length_in, size_in, data_block, data_block_of, contents_in}
+use Rattle.image.specs.Whole.{IsWhole}
 use Rattle.image.proofs.Contents.{length_words}
-use Rattle.image.proofs.Opened.{Whole, says}
-use Rattle.blocks.specs.Ranges.{Range, data_of}
+use Rattle.image.proofs.Openings.{says}
+use Rattle.blocks.specs.Ranges.{Range}
 
-pub whole_range : (bytes : List ℕ) → Whole bytes → Range bytes (data_block bytes) (size_in bytes)
+pub whole_range : (bytes : List ℕ) → IsWhole bytes → Range bytes (data_block bytes) (size_in bytes)
 whole_range bytes w =
     let b = w.counts.blocks in
     record {
@@ -19,12 +18,12 @@ whole_range bytes w =
       refused = λ d o. absurd (says bytes o w);
     }
 
-pub no_range : (bytes : List ℕ) → (Whole bytes → ⊥) → Range bytes 0 0
+pub no_range : (bytes : List ℕ) → (IsWhole bytes → ⊥) → Range bytes 0 0
 no_range bytes h =
     record {
       few = omega arith;
       within = omega arith;
-      checked = λ k l. let f : ⊥ = omega arith in absurd f;
+      checked = λ k l. absurd (omega arith);
       opened = λ c o. absurd (h (says bytes o).0);
       refused = λ d o. refl;
     }
@@ -35,11 +34,3 @@ contents_size bytes c e = ap (λ (d : Contents). length d.words) e ∙ length_wo
 
 pub contents_block : (bytes : List ℕ) (c : Contents) → c ≡ contents_in bytes → data_block_of c ≡ data_block bytes
 contents_block bytes c e = ap data_block_of e ∙ ap (λ (n : ℕ). 1 + pages n) (length_words bytes 1 (length_in bytes))
-
--- the words in that range are those of the answer
-pub range_words : (bytes : List ℕ) (f n : ℕ) → Range bytes f n → (answer : Result Contents Declined) → Opening bytes answer
-    → words_from bytes f n ≡ data_of answer
-range_words bytes f n r (Ok c) o =
-    let p = r.opened c o in
-    rw (p.0, p.1) (sym (ap (λ (d : Contents). d.words) (says bytes o).1))
-range_words bytes f n r (Err d) o = let z = r.refused d o in rw z

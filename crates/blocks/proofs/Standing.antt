@@ -2,7 +2,7 @@
 use Rattle.std.proofs.Common.{◌≡◌, ℕ, ◌^◌, ◌<◌, length, set, sym, ap, ◌∙◌, ap₂}
 use Rattle.image.specs.Format.{Contents, data_block, size_in, words_from}
 use Rattle.image.proofs.Contents.{length_words}
-use Rattle.image.proofs.Opened.{says}
+use Rattle.image.proofs.Openings.{says}
 use Rattle.blocks.specs.declared.block_memory.BlockMemory.{BlockMemory}
 use Rattle.blocks.specs.Layout.{block_of, place_of, rewritten, SameImage, with_words}
 use Rattle.blocks.specs.Memories.{words_of, Kept, frame_of, Stands}

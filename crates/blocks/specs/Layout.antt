@@ -1,5 +1,5 @@
 -- Where n data words stand in the bytes of an image, f being the first of their blocks.
-use Rattle.std.specs.Prelude.{◌≡◌, ℕ, ◌+◌, ◌-◌, ◌*◌, ◌/◌, ◌%◌, ◌<◌, Bool, false, cond, ◌&&◌, ◌||◌, List, map, length, Ok, ◌==◌, nat_le, nat_lt, slice_index}
+use Rattle.std.specs.Prelude.{◌≡◌, ℕ, ◌+◌, ◌-◌, ◌*◌, ◌/◌, ◌%◌, ◌<◌, Bool, false, if◌then◌else◌, ◌&&◌, ◌||◌, List, map, length, Ok, ◌==◌, nat_le, nat_lt, slice_index}
 use Rattle.std.specs.List.{range_with_len}
 use Rattle.image.specs.Words.{put_word}
 use Rattle.image.specs.Blocks.{check, block_word, pages}
@@ -27,7 +27,7 @@ is_open f n k = is_data f n (k / 128) (k % 128) || is_check f n (k / 128) (k % 1
 
 -- the other bytes, in their places among zeros
 abbrev pub others : ℕ → ℕ → List ℕ → List ℕ
-others f n bytes = map (λ k. cond (is_open f n (k / 4)) 0 (slice_index bytes k)) (range_with_len 0 (length bytes))
+others f n bytes = map (λ k. if is_open f n (k / 4) then 0 else slice_index bytes k) (range_with_len 0 (length bytes))
 
 -- the checks of the data blocks are right
 abbrev pub Checked : ℕ → ℕ → List ℕ → Type 0

@@ -3,10 +3,11 @@ ghost use Rattle.std.specs.Prelude.{◌+◌, ◌*◌, ◌≤◌, length};
 ghost use Rattle.image.specs.Blocks.{pages};
 ghost use Rattle.blocks.specs.Layout.{Checked};
 
+/// A memory over the data words of an image.
 #[derive(Drop)]
 pub struct BlockMemory<'a> {
     bytes: &'a mut [u8],
-    // the first block of the data words
+    // the first block of the data words, and how many there are: two fields, since its definitions ask for the one or the other
     first: usize,
     size: u32,
     ghost few: { size ≤ 4096 },

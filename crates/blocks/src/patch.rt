@@ -7,7 +7,8 @@ use crate::block_memory::BlockMemory;
 use memory::fault::NoWord;
 use memory::meaning::replace;
 
-// Puts a word at a data address of the image, and answers the one that stood there.
+/// Puts a word at a data address of the image, and answers the one that stood there.
+// The pile of the host does the same through a cache; a function for both would be public, and would ask what its step does.
 pub fn replace_in_image(bytes: &mut [u8], address: u32, word: u32) -> Result<u32, NoWord>
     ensures { Replaced bytes.old bytes.new address word (told of_no_word result) }
 {

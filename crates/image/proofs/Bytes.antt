@@ -1,5 +1,6 @@
 -- What a word's bytes are after it is written, and what is read back.
-use Rattle.std.proofs.Common.{◌≡◌, ℕ, zero, suc, ◌+◌, ◌*◌, ◌/◌, ◌%◌, ◌^◌, ◌<◌, ◌≤◌, ◌≢◌, List, length, get_or, set, refl, ap, ◌∙◌, add-zero, arith, length-set, get_or-set_other, get_or-set_same}
+use Rattle.std.proofs.Common.{◌≡◌, ℕ, zero, suc, ◌+◌, ◌*◌, ◌/◌, ◌%◌, ◌^◌, ◌<◌, ◌≤◌, ◌≢◌, List, [], ◌∷◌, ◌++◌, length, get_or, take, drop, set, sym, refl, ap, ◌∙◌, add-zero, arith, length-set, get_or-set_other, get_or-set_same}
+use Rattle.std.proofs.Math.Seq.{sets, sets-eq}
 use Rattle.image.specs.Words.{byte_of, word_at, put_word}
 
 -- a byte of the word that was written
@@ -22,7 +23,7 @@ put_same s i w (suc (suc zero)) l h =
 put_same s i w (suc (suc (suc zero))) l h =
     let m : 4 * i + 3 < length (set (set (set s (4 * i) (byte_of w 0)) (4 * i + 1) (byte_of w 1)) (4 * i + 2) (byte_of w 2)) = simp length-set (omega arith) in
     rw get_or-set_same
-put_same s i w (suc (suc (suc (suc r)))) l h = let f : ⊥ = omega arith in absurd f
+put_same s i w (suc (suc (suc (suc r)))) l h = absurd (omega arith)
 
 -- a byte of another word
 pub put_other : (s : List ℕ) (i w k : ℕ) → (k / 4 ≡ i → ⊥) → get_or (put_word s i w) k 0 ≡ get_or s k 0
@@ -66,3 +67,21 @@ word_put_other s i w k ne =
 
 pub length_put : (s : List ℕ) (i w : ℕ) → length (put_word s i w) ≡ length s
 length_put s i w = simp length-set
+
+-- a word's bytes, as the code gives them
+abbrev pub bytes_of : ℕ → List ℕ
+bytes_of w = byte_of w 0 ∷ byte_of w 1 ∷ byte_of w 2 ∷ byte_of w 3 ∷ []
+
+pub be_bytes : (w : ℕ) → w / 16777216 % 256 ∷ w / 65536 % 256 ∷ w / 256 % 256 ∷ w % 256 ∷ [] ≡ bytes_of w
+be_bytes w = let last : w / 1 ≡ w = omega arith in rw last
+
+-- and laid over those of another
+pub paste_word : (s : List ℕ) (i w : ℕ) → 4 * i + 4 ≤ length s → take (4 * i) s ++ bytes_of w ++ drop (4 * i + 4) s ≡ put_word s i w
+paste_word s i w h = sym (sets-eq (bytes_of w) s (4 * i) h) ∙ put_sets
+  where
+    put_sets : sets s (4 * i) (bytes_of w) ≡ put_word s i w
+    put_sets =
+        let a : 4 * i + 1 ≡ suc (4 * i) = omega arith in
+        let b : 4 * i + 2 ≡ suc (suc (4 * i)) = omega arith in
+        let c : 4 * i + 3 ≡ suc (suc (suc (4 * i))) = omega arith in
+        rw (a, b, c)

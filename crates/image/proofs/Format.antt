@@ -1,18 +1,14 @@
 -- What stands in a written image, word by word.
-use Rattle.std.proofs.Common.{◌≡◌, ℕ, zero, suc, ◌+◌, ◌-◌, ◌*◌, ◌/◌, ◌%◌, ◌^◌, ◌<◌, ◌≤◌, Bool, true, false, cond, eqb, ltb, List, [], ◌∷◌, map, length, get_or, sym, refl, ap, ◌∙◌, mod-lt, arith, lit<, rules, lt-ltb}
+use Rattle.std.proofs.Common.{◌≡◌, ℕ, zero, suc, ◌+◌, ◌-◌, ◌*◌, ◌/◌, ◌%◌, ◌^◌, ◌<◌, ◌≤◌, Bool, true, false, cond, eqb, ltb, List, [], ◌∷◌, length, get_or, sym, refl, ap, ◌∙◌, mod-lt, arith, lit<, rules, lt-ltb}
+use Rattle.std.proofs.Math.ListN.{get_or-map}
 use Rattle.std.proofs.lemmas.List.{length-map}
 use Rattle.isa.specs.Words.{cleared}
 use Rattle.isa.proofs.Words.{cleared_small}
-use Rattle.image.specs.Words.{byte_of, put_word}
+use Rattle.image.specs.Words.{byte_of}
 use Rattle.image.specs.Blocks.{weighted, check, block_word, pages}
-use Rattle.image.specs.Format.{Contents, content, unchecked_word, image_word, whole_word, image_byte}
+use Rattle.image.specs.Format.{Contents, content, unchecked_word, image_word, whole_word}
 use Rattle.image.specs.Writing.{given, Held, Laid}
-use Rattle.image.proofs.Bytes.{put_same, put_other, read_bytes}
-
-pub get_or_map : (f : ℕ → ℕ) (ws : List ℕ) (k : ℕ) → f 0 ≡ 0 → get_or (map f ws) k 0 ≡ f (get_or ws k 0)
-get_or_map f [] k z = sym z
-get_or_map f (w ∷ ws) zero z = refl
-get_or_map f (w ∷ ws) (suc k) z = get_or_map f ws k z
+use Rattle.image.proofs.Bytes.{read_bytes}
 
 -- every number that the image holds has 32 bits
 pub record Small (c : Contents) : Type 0 where
@@ -90,27 +86,6 @@ content_word c i p h = sym (inner_at c (i / 128) (i % 128) p h)
 pub check_word : (c : Contents) (i : ℕ) (bytes : List ℕ) → Held c i bytes → i % 128 ≡ 127 → check (block_word bytes (i / 128)) ≡ whole_word c i
 check_word c i bytes h e = rw e (check_held c (i / 128) i bytes h (omega arith))
 
-laid_here : (c : Contents) (i w k : ℕ) (s : List ℕ) → 4 * i + 4 ≤ length s → w ≡ whole_word c i → k / 4 ≡ i → get_or (put_word s i w) k 0 ≡ image_byte c k
-laid_here c i w k s l e q =
-    let p : k ≡ 4 * i + k % 4 = omega arith in
-    ap (λ (n : ℕ). get_or (put_word s i w) n 0) p ∙ put_same s i w (k % 4) l (omega arith) ∙ ap (λ (v : ℕ). byte_of v (k % 4)) (e ∙ ap (whole_word c) (sym q))
-
-laid_by : (c : Contents) (i w k : ℕ) (before s : List ℕ) (t : Bool) → eqb (k / 4) i ≡ t → 4 * i + 4 ≤ length s → Laid c i before s → w ≡ whole_word c i
-    → get_or (put_word s i w) k 0 ≡ cond (ltb (k / 4) (i + 1)) (image_byte c k) (get_or before k 0)
-laid_by c i w k before s true q l h e =
-    let r : k / 4 ≡ i = search rules in
-    let m : ltb (k / 4) (i + 1) ≡ true = search rules in
-    rw m (laid_here c i w k s l e r)
-laid_by c i w k before s false q l h e =
-    let r : k / 4 ≡ i → ⊥ = search rules in
-    let m : ltb (k / 4) (i + 1) ≡ ltb (k / 4) i = search rules in
-    rw m (put_other s i w k r ∙ h k)
-
--- one word more
-pub laid_more : (c : Contents) (i w : ℕ) (before s : List ℕ) → 4 * i + 4 ≤ length s → Laid c i before s → w ≡ whole_word c i
-    → Laid c (i + 1) before (put_word s i w)
-laid_more c i w before s l h e k = laid_by c i w k before s (eqb (k / 4) i) refl l h e
-
 -- what was laid is read back
 pub laid_held : (c : Contents) (n : ℕ) (before s : List ℕ) → Small c → n ≤ 2 ^ 32 → Laid c n before s → Held c n s
 laid_held c n before s small most h i l =
@@ -127,7 +102,7 @@ pub given_small : (program words : List ℕ) (depth : ℕ) → ((k : ℕ) → ge
     → length program < 2 ^ 32 → length words < 2 ^ 32 → depth < 2 ^ 32 → Small (given program words depth)
 given_small program words depth p w lp lw d =
     record {
-      program = λ k. rw (get_or_map cleared program k refl) (cleared_small (get_or program k 0) (p k));
+      program = λ k. rw (get_or-map cleared program k 0) (cleared_small (get_or program k 0) (p k));
       words = w;
       program_length = rw (length-map program cleared) lp;
       words_length = lw;

@@ -1,5 +1,7 @@
 pub mod Contents
 pub mod Bytes
+pub mod Sums
 pub mod Format
+pub mod Chunked
 pub mod Written
-pub mod Opened
+pub mod Openings

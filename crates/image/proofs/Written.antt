@@ -1,17 +1,22 @@
 -- A written image opens, and holds what was given.
-use Rattle.std.proofs.Common.{◌≡◌, ℕ, ◌+◌, ◌-◌, ◌*◌, ◌/◌, ◌%◌, ◌^◌, ◌<◌, ◌≤◌, Bool, true, false, cond, eqb, ltb, List, ◌++◌, map, length, get_or, take, drop, Ok, sym, refl, ap, ◌∙◌, subst, arith, lit<, length-append, length-drop, rules, le-ltb, lt-ltb}
+use Rattle.std.proofs.Common.{◌≡◌, ℕ, ◌+◌, ◌-◌, ◌*◌, ◌/◌, ◌%◌, ◌^◌, ◌<◌, ◌≤◌, Bool, true, false, cond, eqb, ltb, List, [], ◌++◌, map, length, get_or, take, drop, Ok, Err, sym, refl, ap, ◌∙◌, subst, arith, lit<, length-append, length-drop, rules, le-ltb, lt-ltb}
+use Rattle.std.proofs.Math.ListN.{get_or-map}
 use Rattle.std.proofs.lemmas.List.{length-map, ext_get_or, get_or_append_left, get_or-append_right, get_or-drop, take_at}
 use Rattle.std.proofs.lemmas.List.FromFn.{length-map-range_with_len, get_or-map-range_with_len}
+use Rattle.refusal.specs.Refusals.{refused}
 use Rattle.isa.specs.Words.{cleared}
 use Rattle.isa.specs.Programs.{LawfulProgram}
 use Rattle.isa.proofs.Words.{cleared_lawful}
 use Rattle.image.specs.Words.{word_at}
 use Rattle.image.specs.Blocks.{AllSound, pages}
 use Rattle.image.specs.Format.{Contents, blocks_for, blocks_of, content, image_word, image_byte, image_of, word_from, words_from, program_in, contents_in}
-use Rattle.image.specs.Opening.{RightLength, RightCounts, Opening, opened}
-use Rattle.image.specs.Writing.{Writable, Writing, written, given, Held, Laid}
+use Rattle.image.specs.Whole.{RightLength, RightCounts}
+use Rattle.image.specs.Opening.{Opening, opened}
+use Rattle.image.specs.declared.draft.Draft.{Draft}
+use Rattle.image.specs.Writing.{Writable, Writing, no_space, written, given, Held, Laid}
+use Rattle.image.specs.Drafts.{drafted, IsDraftOf}
 use Rattle.image.proofs.Contents.{length_words, word_here}
-use Rattle.image.proofs.Format.{Small, get_or_map, given_small, laid_held, whole_at, first_at, inner_at, check_held}
+use Rattle.image.proofs.Format.{Small, given_small, laid_held, whole_at, first_at, inner_at, check_held}
 
 pub length_image : (c : Contents) → length (image_of c) ≡ 512 * blocks_of c
 unfolding image_of
@@ -158,46 +163,63 @@ laid_bytes c before s e l h =
 given_lawful : (program : List ℕ) → ((k : ℕ) → get_or program k 0 < 2 ^ 32) → LawfulProgram program → LawfulProgram (map cleared program)
 given_lawful program t h k l =
     let n = length-map program cleared in
-    rw (get_or_map cleared program k refl) (cleared_lawful (get_or program k 0) (t k) (h k (omega arith)))
+    rw (get_or-map cleared program k 0) (cleared_lawful (get_or program k 0) (t k) (h k (omega arith)))
+
+-- every number of a draft has 32 bits
+pub small_drafted : (d : Draft) → Small (drafted d)
+small_drafted d =
+    let w = d.writable in
+    let a = w.short in
+    let b = w.small in
+    let e = w.deep.1 in
+    given_small d.program.now d.words.now d.depth d.instructions_fit d.words_fit (omega arith) (omega arith) (omega arith)
 
 -- what is written opens and holds what was given
-pub written_opens : (program words : List ℕ) (depth : ℕ) → ((k : ℕ) → get_or program k 0 < 2 ^ 32) → ((k : ℕ) → get_or words k 0 < 2 ^ 32)
-    → Writable program words depth → Opening (image_of (given program words depth)) (Ok (given program words depth))
-written_opens program words depth p w ok =
-    image_opens (given program words depth)
+draft_opens : (d : Draft) → Opening (image_of (drafted d)) (Ok (drafted d))
+draft_opens d =
+    let w = d.writable in
+    image_opens (drafted d)
     (record {
-      small =
-          let a = ok.short in
-          let b = ok.small in
-          let d = ok.deep.1 in
-          given_small program words depth p w (omega arith) (omega arith) (omega arith);
-      short = rw (length-map program cleared) ok.short;
-      few = ok.small;
-      deep = ok.deep.0;
-      shallow = ok.deep.1;
-      lawful = given_lawful program p ok.lawful;
+      small = small_drafted d;
+      short = rw (length-map d.program.now cleared) w.short;
+      few = w.small;
+      deep = w.deep.0;
+      shallow = w.deep.1;
+      lawful = given_lawful d.program.now d.instructions_fit w.lawful;
     })
 
 -- how long an image of what was given is
 pub given_blocks : (program words : List ℕ) (depth : ℕ) → blocks_of (given program words depth) ≡ blocks_for (length program) (length words)
 given_blocks program words depth = ap (λ (n : ℕ). blocks_for n (length words)) (length-map program cleared)
 
--- what writing leaves, once all n blocks are laid
-module _ (program words : List ℕ) (depth n : ℕ) (before s : List ℕ) (ok : Writable program words depth) (e : n ≡ blocks_for (length program) (length words))
-    (l : 512 * n ≤ length before) where
-  pub written_answer : Writing program words depth (length before) (Ok (512 * n))
-  written_answer = rw e (written ok (let f = e in omega arith))
+-- a draft of what was given, and n blocks
+module _ (program words : List ℕ) (depth n : ℕ) (d : Draft) (of : IsDraftOf program words depth d) (e : n ≡ blocks_of (drafted d)) where
+  same : drafted d ≡ given program words depth
+  same = rw (of.program, of.words, of.depth)
 
-  pub written_bytes : length s ≡ length before → Laid (given program words depth) (128 * n) before s → s ≡ image_of (given program words depth) ++ drop (512 * n) before
-  written_bytes m h =
-      let b : n ≡ blocks_of (given program words depth) = e ∙ sym (given_blocks program words depth) in
-      rw b (laid_bytes (given program words depth) before s m (omega arith) (rw b at h))
+  blocks : n ≡ blocks_for (length program) (length words)
+  blocks = e ∙ ap blocks_of same ∙ given_blocks program words depth
 
-  pub written_image : ((k : ℕ) → get_or program k 0 < 2 ^ 32) → ((k : ℕ) → get_or words k 0 < 2 ^ 32) → length s ≡ length before → Laid (given program words depth) (128 * n) before s
+  writable : Writable program words depth
+  writable = rw (of.program, of.words, of.depth) at d.writable
+
+  pub refused_answer : (space : ℕ) → space < 512 * n → Writing program words depth space (Err (refused 17 []))
+  refused_answer space l = let b = blocks in no_space writable (omega arith)
+
+  pub written_answer : (space : ℕ) → 512 * n ≤ space → Writing program words depth space (Ok (512 * n))
+  written_answer space l = let b = blocks in rw blocks (written writable (omega arith))
+
+  -- what writing leaves, once all blocks are laid
+  pub written_bytes : (before s : List ℕ) → 512 * n ≤ length before → length s ≡ length before → Laid (drafted d) (128 * blocks_of (drafted d)) before s
+      → s ≡ image_of (given program words depth) ++ drop (512 * n) before
+  written_bytes before s l m h =
+      subst (λ (c : Contents). s ≡ image_of c ++ drop (512 * n) before) same
+      (subst (λ (k : ℕ). s ≡ image_of (drafted d) ++ drop (512 * k) before) (sym e) (laid_bytes (drafted d) before s m (omega arith) h))
+
+  pub written_image : (before s : List ℕ) → 512 * n ≤ length before → length s ≡ length before → Laid (drafted d) (128 * blocks_of (drafted d)) before s
       → Opening (take (512 * n) s) (Ok (given program words depth))
-  written_image p w m h =
-      let b : n ≡ blocks_of (given program words depth) = e ∙ sym (given_blocks program words depth) in
-      let i : length (image_of (given program words depth)) ≡ 512 * n = length_image (given program words depth) ∙ ap (λ (j : ℕ). 512 * j) (sym b) in
+  written_image before s l m h =
+      let i : length (image_of (given program words depth)) ≡ 512 * n = length_image (given program words depth) ∙ ap (λ (j : ℕ). 512 * j) (sym (e ∙ ap blocks_of same)) in
       let t : take (512 * n) s ≡ image_of (given program words depth) =
-      ap (take (512 * n)) (written_bytes m h) ∙ take_at (image_of (given program words depth)) (drop (512 * n) before) (512 * n) i in
-      rw t (written_opens program words depth p w ok)
+      ap (take (512 * n)) (written_bytes before s l m h) ∙ take_at (image_of (given program words depth)) (drop (512 * n) before) (512 * n) i in
+      rw t (subst (λ (c : Contents). Opening (image_of c) (Ok c)) same (draft_opens d))

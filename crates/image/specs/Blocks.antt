@@ -15,10 +15,14 @@ check words = weighted words 127 % 2 ^ 32
 abbrev pub block_word : List ℕ → ℕ → ℕ → ℕ
 block_word bytes b i = word_at bytes (128 * b + i)
 
--- a block whose number and check are right
-pub record Sound (bytes : List ℕ) (b : ℕ) : Type 0 where
-  pub number : block_word bytes b 0 ≡ b
-  pub checked : block_word bytes b 127 ≡ check (block_word bytes b)
+-- the words of a block whose number and check are right
+pub record RightMarks (words : ℕ → ℕ) (b : ℕ) : Type 0 where
+  pub number : words 0 ≡ b
+  pub checked : words 127 ≡ check words
+
+-- block b has a right number and a right check
+abbrev pub Sound : List ℕ → ℕ → Type 0
+Sound bytes b = RightMarks (block_word bytes b) b
 
 -- how many blocks there are
 abbrev pub block_count : List ℕ → ℕ

@@ -1,5 +1,5 @@
 -- The format: what stands in each word of an image.
-use Rattle.std.specs.Prelude.{ℕ, ◌+◌, ◌-◌, ◌*◌, ◌/◌, ◌%◌, cond, List, [], ◌∷◌, map, length, ◌==◌, nat_lt, slice_index}
+use Rattle.std.specs.Prelude.{ℕ, ◌+◌, ◌-◌, ◌*◌, ◌/◌, ◌%◌, ◌≤◌, if◌then◌else◌, List, [], ◌∷◌, map, length, ◌==◌, nat_lt, slice_index}
 use Rattle.std.specs.List.{range_with_len}
 use Rattle.image.specs.Words.{byte_of, word_at}
 use Rattle.image.specs.Blocks.{check, pages, place_from}
@@ -9,6 +9,10 @@ pub record Contents : Type 0 where
   pub program : List ℕ
   pub words : List ℕ
   pub depth : ℕ
+
+-- a depth that an image can have
+abbrev pub Deep : ℕ → Type 0
+Deep d = (1 ≤ d) × (d ≤ 8)
 
 -- block 0, then the blocks of the program, then those of the data words
 abbrev pub blocks_for : ℕ → ℕ → ℕ
@@ -29,17 +33,17 @@ page_word ws p j = slice_index ws (126 * p + j)
 -- content word j of block b: block 0 holds the two lengths and the depth, and unused content is 0
 abbrev pub content : Contents → ℕ → ℕ → ℕ
 content c b j =
-    cond (b == 0) (slice_index (length c.program ∷ length c.words ∷ c.depth ∷ []) j)
-    (cond (nat_lt (b - 1) (pages (length c.program))) (page_word c.program (b - 1) j)
-    (page_word c.words (b - 1 - pages (length c.program)) j))
+    if b == 0 then slice_index (length c.program ∷ length c.words ∷ c.depth ∷ []) j
+    else if nat_lt (b - 1) (pages (length c.program)) then page_word c.program (b - 1) j
+    else page_word c.words (b - 1 - pages (length c.program)) j
 
 -- word i of block b, but for the check
 abbrev pub unchecked_word : Contents → ℕ → ℕ → ℕ
-unchecked_word c b i = cond (i == 0) b (content c b (i - 1))
+unchecked_word c b i = if i == 0 then b else content c b (i - 1)
 
 -- word i of block b
 unfoldable pub image_word : Contents → ℕ → ℕ → ℕ
-image_word c b i = cond (i == 127) (check (unchecked_word c b)) (unchecked_word c b i)
+image_word c b i = if i == 127 then check (unchecked_word c b) else unchecked_word c b i
 
 -- word i of the image
 abbrev pub whole_word : Contents → ℕ → ℕ

@@ -2,5 +2,8 @@ pub mod Words
 pub mod Blocks
 pub mod Format
 pub mod Faults
+pub mod Headers
+pub mod Whole
 pub mod Opening
 pub mod Writing
+pub mod Drafts

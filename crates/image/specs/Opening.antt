@@ -1,29 +1,16 @@
 -- Opening bytes as an image.
-use Rattle.std.specs.Prelude.{◌≡◌, ℕ, ◌*◌, ◌%◌, ◌<◌, ◌≤◌, List, [], ◌∷◌, length, Ok, Err, Result}
+use Rattle.std.specs.Prelude.{ℕ, ◌<◌, List, [], ◌∷◌, Ok, Err, Result}
 use Rattle.refusal.specs.Refusals.{Declined, refused}
 use Rattle.isa.specs.declared.fault.WordFault.{WordFault}
 use Rattle.isa.specs.declared.fault.ProgramFault.{ProgramFault}
 use Rattle.isa.specs.declared.fault.ProgramFault.TheVariants.{TooLong, Word}
 use Rattle.isa.specs.Programs.{LawfulProgram, FirstUnlawful, unlawful_at}
-use Rattle.image.specs.declared.opening.Image.{Image}
+use Rattle.image.specs.declared.opened.Image.{Image}
 use Rattle.image.specs.declared.fault.ImageFault.{ImageFault}
 use Rattle.image.specs.Blocks.{Sound, AllSound, block_count}
-use Rattle.image.specs.Format.{Contents, blocks_for, length_in, size_in, depth_in, program_in, contents_in}
+use Rattle.image.specs.Format.{Contents, program_in, contents_in}
+use Rattle.image.specs.Whole.{RightLength, RightCounts}
 use Rattle.image.specs.Faults.{of_image}
-
--- 1 to 43 whole blocks
-pub record RightLength (bytes : List ℕ) : Type 0 where
-  pub some : 0 < length bytes
-  pub most : length bytes ≤ 22016
-  pub whole : length bytes % 512 ≡ 0
-
--- the lengths and the depth in range, and as many blocks as they ask for
-pub record RightCounts (bytes : List ℕ) : Type 0 where
-  pub short : length_in bytes ≤ 1024
-  pub small : size_in bytes ≤ 4096
-  pub deep : 1 ≤ depth_in bytes
-  pub shallow : depth_in bytes ≤ 8
-  pub blocks : length bytes ≡ 512 * blocks_for (length_in bytes) (size_in bytes)
 
 -- what opening answers: the first refusal that applies, in this order, or the contents; 15 names some damaged block
 pub data Opening (bytes : List ℕ) : Result Contents Declined → Type 0 where

@@ -1,5 +1,5 @@
 -- Writing an image into bytes.
-use Rattle.std.specs.Prelude.{◌≡◌, ℕ, ◌*◌, ◌/◌, ◌<◌, ◌≤◌, cond, List, [], ◌∷◌, ◌++◌, map, length, drop, Ok, Err, Result, nat_lt, slice_index}
+use Rattle.std.specs.Prelude.{◌≡◌, ℕ, ◌*◌, ◌/◌, ◌<◌, ◌≤◌, if◌then◌else◌, List, [], ◌∷◌, ◌++◌, map, length, drop, Ok, Err, Result, nat_lt, slice_index}
 use Rattle.refusal.specs.Refusals.{Declined, refused}
 use Rattle.isa.specs.declared.fault.ProgramFault.{ProgramFault}
 use Rattle.isa.specs.declared.fault.ProgramFault.TheVariants.{TooLong, Word}
@@ -8,7 +8,7 @@ use Rattle.isa.specs.Programs.{LawfulProgram, FirstUnlawful}
 use Rattle.image.specs.declared.writing.WriteFault.{WriteFault}
 use Rattle.image.specs.declared.writing.WriteFault.TheVariants.{ProgramTooLong, Depth, TooMuchData, Unlawful, NoSpace}
 use Rattle.image.specs.Words.{word_at}
-use Rattle.image.specs.Format.{Contents, blocks_for, whole_word, image_byte, image_of}
+use Rattle.image.specs.Format.{Contents, Deep, blocks_for, whole_word, image_byte, image_of}
 
 -- the number and the figures of each case; at 3 the figure is the place of the word
 abbrev pub of_write : WriteFault → Declined
@@ -22,10 +22,6 @@ of_write NoSpace = refused 17 []
 abbrev pub write_fault : ProgramFault → WriteFault
 write_fault TooLong = ProgramTooLong
 write_fault (Word f) = Unlawful f.place
-
--- a depth that an image can have
-abbrev pub Deep : ℕ → Type 0
-Deep d = (1 ≤ d) × (d ≤ 8)
 
 -- what an image can hold
 pub record Writable (program words : List ℕ) (depth : ℕ) : Type 0 where
@@ -63,4 +59,4 @@ Held c n bytes = (i : ℕ) → i < n → word_at bytes i ≡ whole_word c i
 
 -- bytes after the first n words of the image were laid over what stood there
 abbrev pub Laid : Contents → ℕ → List ℕ → List ℕ → Type 0
-Laid c n before after = (k : ℕ) → slice_index after k ≡ cond (nat_lt (k / 4) n) (image_byte c k) (slice_index before k)
+Laid c n before after = (k : ℕ) → slice_index after k ≡ (if nat_lt (k / 4) n then image_byte c k else slice_index before k)

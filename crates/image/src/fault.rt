@@ -7,15 +7,16 @@ use crate::block::BlockFault;
 use isa::fault::ProgramFault;
 use refusal::Refusal;
 
+/// Why bytes are no image.
 #[derive(Clone, Copy, PartialEq, Eq, Debug)]
 pub enum ImageFault {
-    // no whole number of blocks, none, or too many
+    /// No whole number of blocks, none, or too many.
     Length,
-    // a block's number or check is wrong
+    /// A block's number or check is wrong.
     Block(BlockFault),
-    // the lengths or the depth are out of range, or do not go with the number of blocks
+    /// The lengths or the depth are out of range, or do not go with the number of blocks.
     Counts,
-    // a word of the program is no instruction
+    /// A word of the program is no instruction.
     Program(ProgramFault),
 }
 

@@ -1,39 +1,54 @@
 // Where things stand in an image.
-ghost use Rattle.std.specs.Prelude.{◌≡◌, ◌^◌, ◌<◌, ◌≤◌};
+ghost use Rattle.std.specs.Prelude.{◌≡◌, ◌+◌, ◌^◌, ◌<◌, ◌≤◌, ◌↔◌, length, IsTrue};
 ghost use Rattle.image.specs.Blocks.{pages, place_from};
-ghost use Rattle.image.specs.Format.{blocks_for, length_in, size_in, depth_in, data_block, word_from};
+ghost use Rattle.image.specs.Format.{Deep, blocks_for};
+ghost use Rattle.image.specs.Headers.{header_in};
 
 use crate::words::read_word;
 
+/// The words of a block.
 pub const BLOCK_WORDS: usize = 128;
 
+/// The bytes of a block.
 pub const BLOCK_BYTES: usize = 512;
-// the content words of a block
+
+/// How many of a block's words are content.
 pub const PAGE_WORDS: usize = 126;
 
+/// The place of a block's check.
+pub const CHECK: usize = 127;
+
+/// The bytes of the longest image: 43 blocks.
 pub const LONGEST_IMAGE: usize = 22016;
 
+/// The most data words that an image holds.
 pub const LARGEST_DATA: usize = 4096;
+
+const DEEPEST: u32 = 8;
+
+// Whether an image can have a depth.
+pub(crate) fn is_depth(depth: u32) -> bool
+    ensures { IsTrue result ↔ Deep depth }
+{
+    (1..=DEEPEST).contains(&depth)
+}
 
 // How many blocks hold a number of words.
 pub(crate) fn pages_for(words: usize) -> usize
-    requires { words < 2 ^ 32 }
     ensures { result ≡ pages words }
 {
-    (words + PAGE_WORDS - 1) / PAGE_WORDS
+    words.div_ceil(PAGE_WORDS)
 }
 
 // How many blocks an image has, by the lengths of its program and its data.
 pub(crate) fn block_total(program_len: usize, data_size: usize) -> usize
-    requires short { program_len ≤ 1024 }
-    requires small { data_size ≤ 4096 }
     ensures { result ≡ blocks_for program_len data_size }
 {
     1 + pages_for(program_len) + pages_for(data_size)
 }
 
-// The number of the word that holds a content word, given the first of its blocks.
-fn place_from(block: usize, place: usize) -> usize
+// The number of the word at a place of a list, given the first of its blocks.
+pub(crate) fn place_from(block: usize, place: usize) -> usize
     requires block { block < 2 ^ 32 }
     requires place { place < 2 ^ 32 }
     ensures { result ≡ place_from block place }
@@ -41,46 +56,37 @@ fn place_from(block: usize, place: usize) -> usize
     BLOCK_WORDS * (block + place / PAGE_WORDS) + (1 + place % PAGE_WORDS)
 }
 
-// The length of the program that bytes hold.
-pub(crate) fn length_in(bytes: &[u8]) -> usize
-    ensures value { result ≡ length_in bytes.now }
-    ensures bound { result < 2 ^ 32 }
-{
-    read_word(bytes, 1) as usize
+// What block 0 of an image says.
+#[derive(Clone, Copy)]
+pub(crate) struct Header {
+    pub(crate) program_len: u32,
+    pub(crate) data_size: u32,
+    pub(crate) depth: u32,
 }
 
-// The number of data words.
-pub(crate) fn size_in(bytes: &[u8]) -> usize
-    ensures value { result ≡ size_in bytes.now }
-    ensures bound { result < 2 ^ 32 }
-{
-    read_word(bytes, 2) as usize
-}
+impl Header {
+    pub(crate) fn read(bytes: &[u8]) -> Header
+        requires { 16 ≤ length bytes.now }
+        ensures { result ≡ header_in bytes.now }
+    {
+        Header {
+            program_len: read_word(bytes, 1),
+            data_size: read_word(bytes, 2),
+            depth: read_word(bytes, 3),
+        }
+    }
 
-pub(crate) fn depth_in(bytes: &[u8]) -> u32
-    ensures { result ≡ depth_in bytes.now }
-{
-    read_word(bytes, 3)
-}
+    // The first block of the data words.
+    pub(crate) fn data_block(self) -> usize
+        ensures { result ≡ 1 + pages self.program_len }
+    {
+        1 + pages_for(self.program_len as usize)
+    }
 
-pub(crate) fn program_word_in(bytes: &[u8], place: usize) -> u32
-    requires { place < 2 ^ 32 }
-    ensures { result ≡ word_from bytes.now 1 place }
-{
-    read_word(bytes, place_from(1, place))
-}
-
-// The first block of the data words.
-pub(crate) fn data_block_in(bytes: &[u8]) -> usize
-    ensures value { result ≡ data_block bytes.now }
-    ensures bound { result < 2 ^ 32 }
-{
-    1 + pages_for(length_in(bytes))
-}
-
-pub(crate) fn data_word_in(bytes: &[u8], place: usize) -> u32
-    requires { place < 2 ^ 32 }
-    ensures { result ≡ word_from bytes.now (data_block bytes.now) place }
-{
-    read_word(bytes, place_from(data_block_in(bytes), place))
+    // How many blocks the image has.
+    pub(crate) fn blocks(self) -> usize
+        ensures { result ≡ blocks_for self.program_len self.data_size }
+    {
+        block_total(self.program_len as usize, self.data_size as usize)
+    }
 }

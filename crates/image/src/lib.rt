@@ -2,8 +2,10 @@
 #![tactic(auto)]
 
 pub mod block;
+mod draft;
 pub mod fault;
 pub mod layout;
+pub mod opened;
 pub mod opening;
 pub mod words;
 pub mod writing;

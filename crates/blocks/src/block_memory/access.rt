@@ -26,8 +26,10 @@ impl<'a> DataMemory for BlockMemory<'a> {
 
     fn write(&mut self, address: u32, word: u32) -> Result<(), NoWord>
         ensures written { WritesWord words_of frame_of self.old self.new address word result }
-        ensures bytes { address < length (words_of self.old) → self.new.bytes.now ≡ rewritten self.old.bytes.now (block_of self.old.first address) (place_of address) word }
-        ensures image { (c : Contents) → Stands self.old c → Stands self.new (with_words c (slice_set c.words address word)) }
+        ensures bytes { address < length (words_of self.old) → self.new.bytes.now ≡
+            rewritten self.old.bytes.now (block_of self.old.first address) (place_of address) word }
+        ensures image { (c : Contents) → Stands self.old c →
+            Stands self.new (with_words c (slice_set c.words address word)) }
     {
         self.check_address(address)?;
         self.change(address as usize, word);

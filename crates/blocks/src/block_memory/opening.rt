@@ -25,22 +25,20 @@ fn data_range(bytes: &[u8]) -> DataRange
             first: image.data_block(),
             size: image.data_size() as u32,
         },
+        // a range of no words and no `None`, since a block memory stands over these bytes too
         Err(_) => DataRange { first: 0, size: 0 },
     }
 }
 
 impl<'a> BlockMemory<'a> {
-    // A memory over the data words of an image; over bytes that do not open it has no words.
+    /// A memory over the data words of an image; over bytes that do not open it has no words.
     pub fn new(bytes: &'a mut [u8]) -> BlockMemory<'a>
         ensures bytes { result.bytes ≡ bytes.entry }
-        ensures words { (answer : Result Contents Declined) → Opening bytes.old answer → words_of result ≡ data_of answer }
+        ensures words { (answer : Result Contents Declined) → Opening bytes.old answer →
+            words_of result ≡ data_of answer }
         ensures stands { (c : Contents) → Opening bytes.old (Ok c) → Stands result c }
     {
-        let range = data_range(bytes);
-        BlockMemory {
-            bytes,
-            first: range.first,
-            size: range.size,
-        }
+        let DataRange { first, size } = data_range(bytes);
+        BlockMemory { bytes, first, size }
     }
 }

@@ -1,11 +1,29 @@
 // The words in a block memory's bytes.
 ghost use Rattle.std.specs.Prelude.{◌≡◌, ◌+◌, ◌-◌, ◌*◌, ◌%◌, ◌^◌, ◌<◌, ◌≤◌, length};
-ghost use Rattle.image.specs.Words.{put_word};
-ghost use Rattle.image.specs.Blocks.{block_word};
+ghost use Rattle.image.specs.Words.{word_at, put_word};
+ghost use Rattle.image.specs.Blocks.{check, block_word};
 ghost use Rattle.blocks.specs.Layout.{block_of, place_of, rewritten};
 
 use crate::block_memory::BlockMemory;
-use image::layout::{BLOCK_WORDS, PAGE_WORDS};
+use image::layout::{BLOCK_WORDS, CHECK, PAGE_WORDS};
+
+// The word with the number i. The image has the same two functions to itself, since no public call may ask that the
+// bytes be there.
+fn read_word(bytes: &[u8], i: usize) -> u32
+    requires { 4 * i + 4 ≤ length bytes.now }
+    ensures { result ≡ word_at bytes.now i }
+{
+    let (words, _) = bytes.as_chunks::<4>();
+    u32::from_be_bytes(words[i])
+}
+
+// Another word there.
+fn write_word(bytes: &mut [u8], i: usize, word: u32)
+    requires { 4 * i + 4 ≤ length bytes.old }
+    ensures { bytes.new ≡ put_word bytes.old i word }
+{
+    bytes[4 * i..4 * i + 4].copy_from_slice(&word.to_be_bytes());
+}
 
 // The check of a block once its word i is another one, from the check before. No other word is looked at.
 fn updated_check(check: u32, i: usize, old: u32, new: u32) -> u32
@@ -16,20 +34,34 @@ fn updated_check(check: u32, i: usize, old: u32, new: u32) -> u32
     check.wrapping_add(weight.wrapping_mul(new.wrapping_sub(old)))
 }
 
+// Another word in a block whose check is right, and the check right again.
+fn rewrite(bytes: &mut [u8], block: usize, i: usize, word: u32)
+    requires within { 512 * block + 512 ≤ length bytes.old }
+    requires inside { i < 127 }
+    requires checked { block_word bytes.old block 127 ≡ check (block_word bytes.old block) }
+    ensures { bytes.new ≡ rewritten bytes.old block i word }
+{
+    let start = BLOCK_WORDS * block;
+    let old = read_word(bytes, start + i);
+    let check = updated_check(read_word(bytes, start + CHECK), i, old, word);
+    write_word(bytes, start + i, word);
+    write_word(bytes, start + CHECK, check);
+}
+
+// The place of a data word in its block, after the block's number.
+fn place_of(place: usize) -> usize
+    ensures { result ≡ place_of place }
+{
+    1 + place % PAGE_WORDS
+}
+
 impl BlockMemory<'_> {
-    // Word i of a block.
-    fn word(&self, block: usize, i: usize) -> u32
-        requires within { 512 * block + 512 ≤ length self.now.bytes.now }
-        requires inside { i < 128 }
-        ensures { result ≡ block_word self.now.bytes.now block i }
+    // The block of a data word.
+    fn block_of(&self, place: usize) -> usize
+        requires { place < self.now.size }
+        ensures { result ≡ block_of self.now.first place }
     {
-        let at = 4 * (BLOCK_WORDS * block + i);
-        u32::from_be_bytes([
-            self.bytes[at],
-            self.bytes[at + 1],
-            self.bytes[at + 2],
-            self.bytes[at + 3],
-        ])
+        self.first + place / PAGE_WORDS
     }
 
     // The data word at a place.
@@ -37,43 +69,20 @@ impl BlockMemory<'_> {
         requires { place < self.now.size }
         ensures { result ≡ block_word self.now.bytes.now (block_of self.now.first place) (place_of place) }
     {
-        self.word(self.first + place / PAGE_WORDS, 1 + place % PAGE_WORDS)
+        let start = BLOCK_WORDS * self.block_of(place);
+        read_word(self.bytes, start + place_of(place))
     }
 
-    // Another word in the bytes of a memory that has no words.
-    fn put(&mut self, i: usize, word: u32)
-        requires closed { self.old.size ≡ 0 }
-        requires within { 4 * i + 4 ≤ length self.old.bytes.now }
-        ensures bytes { self.new.bytes.now ≡ put_word self.old.bytes.now i word }
-        ensures loan { self.new.bytes.ghost_name ≡ self.old.bytes.ghost_name }
-        ensures first { self.new.first ≡ self.old.first }
-        ensures size { self.new.size ≡ 0 }
-    {
-        let at = 4 * i;
-        let [a, b, c, d] = word.to_be_bytes();
-        self.bytes[at] = a;
-        self.bytes[at + 1] = b;
-        self.bytes[at + 2] = c;
-        self.bytes[at + 3] = d;
-    }
-
-    // Another data word there, and the check of its block right again. The memory has no words while its bytes change,
-    // since the checks of its words are always right.
+    // Another data word there.
     pub(crate) fn change(&mut self, place: usize, word: u32)
         requires { place < self.old.size }
-        ensures bytes { self.new.bytes.now ≡ rewritten self.old.bytes.now (block_of self.old.first place) (place_of place) word }
+        ensures bytes { self.new.bytes.now ≡
+            rewritten self.old.bytes.now (block_of self.old.first place) (place_of place) word }
         ensures loan { self.new.bytes.ghost_name ≡ self.old.bytes.ghost_name }
         ensures first { self.new.first ≡ self.old.first }
         ensures size { self.new.size ≡ self.old.size }
     {
-        let block = self.first + place / PAGE_WORDS;
-        let i = 1 + place % PAGE_WORDS;
-        let old = self.word(block, i);
-        let check = updated_check(self.word(block, 127), i, old, word);
-        let size = self.size;
-        self.size = 0;
-        self.put(BLOCK_WORDS * block + i, word);
-        self.put(BLOCK_WORDS * block + 127, check);
-        self.size = size;
+        let block = self.block_of(place);
+        rewrite(self.bytes, block, place_of(place), word);
     }
 }

@@ -1,6 +1,6 @@
 use Rattle.std.proofs.Common.{◌∙◌, arith}
 use Rattle.image.specs.Opening.{contents_of}
-use Rattle.image.proofs.Opened.{says}
+use Rattle.image.proofs.Openings.{says}
 use Rattle.blocks.proofs.Ranges.{whole_range, no_range, contents_size, contents_block}
 use Rattle.blocks.proofs.block_memory.opening.data_range.Goals as goal
 
