@@ -1,12 +1,12 @@
 -- What the lines make of the words below, after each change of either.
-use Rattle.std.proofs.Common.{◌≡◌, ℕ, ◌+◌, ◌%◌, ◌<◌, true, false, ◌⊎◌, List, length, get_or, set, Some, None, Option, sym, refl, ap, ◌∙◌, ap₂, inl, inr, zero-add, arith, length-set, get_or-set_other}
+use Rattle.std.proofs.Common.{◌≡◌, ℕ, ◌%◌, ◌<◌, true, false, ◌⊎◌, List, length, get_or, set, Some, None, Option, sym, refl, ap, ◌∙◌, ap₂, inl, inr, zero-add, arith, length-set, get_or-set_other}
 use Rattle.std.proofs.lemmas.Bool.{cases_eq}
 use Rattle.std.proofs.lemmas.Bool.Decides.{nat_tests}
 use Rattle.std.proofs.lemmas.Grind.{get_or-set_at, same_number_lists}
 use Rattle.std.proofs.lemmas.List.{set-get_or, get_or-replicate}
 use Rattle.std.proofs.lemmas.List.FromFn.{get_or-map-range_with_len}
 use Rattle.cache.specs.declared.line.Line.{Line}
-use Rattle.cache.specs.Lines.{line, empty_lines, line_of, holds, word_held, covered, over, laid, down, yielded, belongs, Placed, length_over}
+use Rattle.cache.specs.Lines.{line, empty_lines, line_of, holds, word_held, covered, over, laid, yielded, belongs, Placed, length_over}
 
 -- one line, and a word at address k
 
@@ -31,23 +31,6 @@ not_held (Some l) a e = grind (arith, nat_tests)
 not_covered : (l : Option Line) (a x : ℕ) → None ≡ word_held l a → covered l a x ≡ x
 not_covered None a x e = refl
 not_covered (Some l) a x e = grind (arith, nat_tests)
-
--- a line that is written down: its own word, and those of other lines
-length_down : (l : Option Line) (ws : List ℕ) → length (down l ws) ≡ length ws
-length_down None ws = refl
-length_down (Some l) ws = length-set ws l.address l.word
-
-down_here : (l : Option Line) (k : ℕ) (ws : List ℕ) → k < length ws → get_or (down l ws) k 0 ≡ covered l k (get_or ws k 0)
-down_here None k ws h = refl
-down_here (Some l) k ws h = grind (arith, nat_tests, get_or-set_at, get_or-set_other)
-
-covered_twice : (l : Option Line) (k x : ℕ) → covered l k (covered l k x) ≡ covered l k x
-covered_twice None k x = refl
-covered_twice (Some l) k x = grind (arith, nat_tests)
-
-down_elsewhere : (l : Option Line) (i k : ℕ) (ws : List ℕ) → belongs l i ≡ true → (k % 16 ≡ i → ⊥) → get_or (down l ws) k 0 ≡ get_or ws k 0
-down_elsewhere None i k ws b ne = refl
-down_elsewhere (Some l) i k ws b ne = grind (arith, nat_tests, get_or-set_other)
 
 -- a line that yields: its own word, and those of other lines
 length_yielded : (l : Option Line) (a : ℕ) (ws : List ℕ) → length (yielded l a ws) ≡ length ws
@@ -108,28 +91,6 @@ over_written ls ws d = same_over ls ws ws refl (λ k h. d k h (omega arith))
 
 -- lines that hold each address in its own line
 module _ (ls : List (Option Line)) (placed : Placed ls) where
-  -- writing a line down changes no word of the cache
-  pub over_down : (ws : List ℕ) (i : ℕ) → i < 16 → over ls (down (get_or ls i None) ws) ≡ over ls ws
-  over_down ws i h =
-      let n = length_down (get_or ls i None) ws in
-      let m = length_over ls ws in
-      same_over ls (down (get_or ls i None) ws) (over ls ws) (n ∙ sym m) (λ k l. let o : k < length ws = omega arith in at k o (cases_eq (k % 16) i) ∙ sym (at_over ls ws k o))
-    where
-      at : (k : ℕ) → k < length ws → (k % 16 ≡ i) ⊎ (k % 16 ≡ i → ⊥)
-          → covered (line_of ls k) k (get_or (down (get_or ls i None) ws) k 0) ≡ covered (line_of ls k) k (get_or ws k 0)
-      at k l (inl e) = grind (arith, e, down_here, covered_twice)
-      at k l (inr ne) = grind (arith, ne, down_elsewhere, placed i h)
-
-  -- one line more written down
-  pub written_more : (ws vs : List ℕ) (i : ℕ) → i < 16 → vs ≡ down (get_or ls i None) ws → WrittenBelow ls ws i → WrittenBelow ls vs (i + 1)
-  written_more ws vs i h e before k l m =
-      let n : length vs ≡ length ws = ap length e ∙ length_down (get_or ls i None) ws in
-      rw e (at (omega arith) (cases_eq (k % 16) i))
-    where
-      at : k < length ws → (k % 16 ≡ i) ⊎ (k % 16 ≡ i → ⊥) → covered (line_of ls k) k (get_or (down (get_or ls i None) ws) k 0) ≡ get_or (down (get_or ls i None) ws) k 0
-      at o (inl e) = grind (arith, e, down_here, covered_twice)
-      at o (inr ne) = grind (arith, ne, down_elsewhere, placed i h, before)
-
   -- a word taken into its line, once that has yielded
   pub over_laid : (ws : List ℕ) (a w : ℕ) → line_of (laid ls a w) a ≡ line a w → a < length ws → over (laid ls a w) (yielded (line_of ls a) a ws) ≡ set (over ls ws) a w
   over_laid ws a w here h =

@@ -5,6 +5,7 @@ use crate::line::Line;
 
 const LINES: usize = 16;
 
+/// A cache over a memory.
 #[derive(Drop)]
 pub struct Cache<'a, M> {
     below: &'a mut M,

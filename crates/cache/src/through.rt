@@ -5,7 +5,7 @@ use crate::cache::Cache;
 use memory::fault::NoWord;
 use memory::meaning::{DataMemory, replace};
 
-// Replaces a word through a cache, which is then flushed.
+/// Replaces a word through a cache, which is then flushed.
 pub fn replace_through<M: DataMemory>(
     memory: &mut M,
     address: u32,
@@ -19,8 +19,9 @@ pub fn replace_through<M: DataMemory>(
     old
 }
 
-// The same through a cache over a cache.
-// (One function that took the inner step would owe what the step's own cache is before and after it, in more lines.)
+/// The same through a cache over a cache.
+// Two functions, and not one that takes the inner step: that was tried, and its contract, five facts on the step's own cache,
+// did not close.
 pub fn replace_through_two<M: DataMemory>(
     memory: &mut M,
     address: u32,

@@ -10,9 +10,9 @@ use refusal::Refusal;
 
 pub mod pile;
 
-// One line that says what the image holds, or why it does not open.
+/// One line that says what the image holds, or why it does not open.
 pub fn report(bytes: &[u8]) -> Text
-    ensures { Reported bytes.now (result) }
+    ensures { Reported bytes.now result }
 {
     match open(bytes) {
         Ok(image) => opened(image.program_len(), image.data_size(), image.depth()),

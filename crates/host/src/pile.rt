@@ -7,7 +7,7 @@ use blocks::block_memory::BlockMemory;
 use cache::through::replace_through;
 use memory::fault::NoWord;
 
-// Puts a word at a data address of the image, through a cache that is flushed, and answers the one that stood there.
+/// Puts a word at a data address of the image, through a cache that is flushed, and answers the one that stood there.
 pub fn replace_data_word(bytes: &mut [u8], address: u32, word: u32) -> Result<u32, NoWord>
     ensures { Replaced bytes.old bytes.new address word (told of_no_word result) }
 {

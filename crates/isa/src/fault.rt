@@ -5,22 +5,25 @@ ghost use Rattle.isa.specs.declared.fault.ProgramFault.TheVariants.{Word};
 
 use refusal::Refusal;
 
-// A word that is no instruction.
+/// A word that is no instruction.
 #[derive(Clone, Copy, PartialEq, Eq, Debug)]
 pub struct Unlawful {
     pub word: u32,
 }
 
-// A word of a program that is no instruction, and its place there.
+/// A word of a program that is no instruction, and its place there.
 #[derive(Clone, Copy, PartialEq, Eq, Debug)]
 pub struct WordFault {
     pub place: usize,
     pub word: u32,
 }
 
+/// Why words are no program.
 #[derive(Clone, Copy, PartialEq, Eq, Debug)]
 pub enum ProgramFault {
+    /// More than 1,024 words.
     TooLong,
+    /// A word that is no instruction.
     Word(WordFault),
 }
 

@@ -8,24 +8,25 @@ use crate::fault::Unlawful;
 use crate::operation::Operation;
 use crate::register::Register;
 
+/// An instruction.
 #[derive(Clone, Copy, PartialEq, Eq, Debug)]
 pub enum Instruction {
-    // a becomes the number
+    /// `a` becomes the number.
     Loadc(Register, u16),
-    // a becomes the instruction's own address
+    /// `a` becomes the instruction's own address.
     Loadpc(Register),
-    // a becomes the operation applied to b and c
+    /// `a` becomes the operation applied to `b` and `c`.
     Op(Operation, Register, Register, Register),
-    // a becomes the data word at address b
+    /// `a` becomes the data word at address `b`.
     Load(Register, Register),
-    // the data word at address a becomes b
+    /// The data word at address `a` becomes `b`.
     Store(Register, Register),
-    // if a is 0 the next address is b
+    /// If `a` is 0 the next address is `b`.
     Jz(Register, Register),
 }
 
 impl Instruction {
-    // The instruction that a word holds. Spare bits are ignored.
+    /// The instruction that a word holds. Spare bits are ignored.
     pub fn decode(word: u32) -> Result<Instruction, Unlawful>
         ensures { told of_unlawful result ≡ read word }
     {
@@ -39,11 +40,11 @@ impl Instruction {
             4 => Ok(Instruction::Load(a, b)),
             5 => Ok(Instruction::Store(a, b)),
             6 => Ok(Instruction::Jz(a, b)),
-            _ => Err(Unlawful { word }),
+            0 | 3 | 7.. => Err(Unlawful { word }),
         }
     }
 
-    // The word that holds the instruction, its spare bits 0.
+    /// The word that holds the instruction, its spare bits 0.
     pub fn encode(self) -> u32
         ensures value { result ≡ encoded self }
         ensures reads_back { decoded result ≡ Some self }
@@ -61,7 +62,7 @@ impl Instruction {
     }
 }
 
-// The word with these fields.
+// The word with these fields. The kind is a number here, since that is what stands in the word.
 #[tactic(auto, unfolding(crate::specs::Words::packed))]
 fn pack(kind: u32, a: Register, b: Register, c: Register, n: u16) -> u32
     requires { kind < 16 }
@@ -97,7 +98,7 @@ impl From<Instruction> for u32 {
     }
 }
 
-// The word with its spare bits 0.
+/// The word with its spare bits 0.
 #[tactic(auto, unfolding(crate::specs::Words::lawful, crate::specs::Words::packed))]
 pub fn clear_spare_bits(word: u32) -> Result<u32, Unlawful>
     ensures { told of_unlawful result ≡ recoded word }

@@ -1,34 +1,35 @@
-// What each instruction reads, writes and does. The value of an operand that there is not is given as 0.
+// What each instruction reads, writes and does. A missing operand has the value 0.
 ghost use Rattle.std.specs.Prelude.{◌≡◌, IsFalse, IfSome, Some};
 ghost use Rattle.isa.specs.Meanings.{is_jump, target_of, operands_of, following, early_value, executed_value, next_address, access_of};
 
 use crate::instruction::Instruction;
 use crate::register::Register;
 
-// The registers of an instruction's two operands, in the order a, b, c, or the values in those registers.
+/// The registers of an instruction's two operands, in the order a, b, c, or the values in those registers.
 #[derive(Clone, Copy, PartialEq, Eq, Debug)]
 pub struct Operands<T> {
     pub first: T,
     pub second: T,
 }
 
-// What an instruction does at the data memory.
+/// What an instruction does at the data memory.
 #[derive(Clone, Copy, PartialEq, Eq, Debug)]
 pub enum Access {
-    // reads the word at an address
+    /// Reads the word at an address.
     Read(u32),
-    // at an address writes a word
+    /// At an address writes a word.
     Write(u32, u32),
 }
 
 impl Instruction {
+    /// Whether the instruction may go elsewhere than to the following one.
     pub fn is_jump(self) -> bool
         ensures { result ≡ is_jump self }
     {
         matches!(self, Instruction::Jz(_, _))
     }
 
-    // The register that the instruction writes.
+    /// The register that the instruction writes.
     pub fn target(self) -> Option<Register>
         ensures { result ≡ target_of self }
     {
@@ -42,7 +43,7 @@ impl Instruction {
         }
     }
 
-    // The registers that the instruction reads.
+    /// The registers that the instruction reads.
     pub fn operands(self) -> Operands<Option<Register>>
         ensures { result ≡ operands_of self }
     {
@@ -57,7 +58,7 @@ impl Instruction {
         Operands { first, second }
     }
 
-    // The value that is known from the instruction and its address alone.
+    /// The value that is known from the instruction and its address alone.
     pub fn early_value(self, address: u32) -> Option<u32>
         ensures { result ≡ early_value self address }
     {
@@ -68,7 +69,7 @@ impl Instruction {
         }
     }
 
-    // The value that is known once the instruction is executed: the early one, or that of the operation.
+    /// The value that is known once the instruction is executed: the early one, or that of the operation.
     pub fn executed_value(self, address: u32, values: Operands<u32>) -> Option<u32>
         ensures value { result ≡ executed_value self address values }
         ensures early { IfSome (early_value self address) (λ v. result ≡ Some v) }
@@ -80,7 +81,7 @@ impl Instruction {
         }
     }
 
-    // The address of the instruction that follows.
+    /// The address of the instruction that follows.
     pub fn next_address(self, address: u32, values: Operands<u32>) -> u32
         ensures value { result ≡ next_address self address values }
         ensures straight { IsFalse (is_jump self) → result ≡ following address }
@@ -91,6 +92,7 @@ impl Instruction {
         }
     }
 
+    /// What the instruction does at the data memory, if anything.
     pub fn access(self, values: Operands<u32>) -> Option<Access>
         ensures { result ≡ access_of self values }
     {

@@ -2,6 +2,7 @@
 ghost use Rattle.std.specs.Prelude.{◌≡◌};
 ghost use Rattle.isa.specs.Operations.{operation_at, code_of, applied};
 
+/// An operation on two words.
 #[derive(Clone, Copy, PartialEq, Eq, Debug)]
 pub enum Operation {
     Add,
@@ -15,7 +16,7 @@ pub enum Operation {
 }
 
 impl Operation {
-    // The operation that the three lowest bits name.
+    /// The operation that the three lowest bits name.
     pub fn of_low_bits(bits: u32) -> Operation
         ensures { result ≡ operation_at bits }
     {
@@ -31,13 +32,14 @@ impl Operation {
         }
     }
 
+    /// Its code, from 0 to 7.
     pub fn code(self) -> u32
         ensures { result ≡ code_of self }
     {
         self as u32
     }
 
-    // What the operation makes of two words.
+    /// What the operation makes of two words.
     pub fn apply(self, b: u32, c: u32) -> u32
         ensures { result ≡ applied self b c }
     {

@@ -8,9 +8,10 @@ ghost use Rattle.isa.specs.Programs.{measured, word_checked, checked, LawfulProg
 use crate::fault::{ProgramFault, WordFault};
 use crate::instruction::Instruction;
 
+/// The most words that a program has.
 pub const LONGEST: usize = 1024;
 
-// The length of a program.
+/// The length of a program.
 pub fn check_length(words: &[u32]) -> Result<(), ProgramFault>
     ensures { told of_program result ≡ measured words.now }
 {
@@ -20,7 +21,7 @@ pub fn check_length(words: &[u32]) -> Result<(), ProgramFault>
     Ok(())
 }
 
-// Whether a word holds an instruction.
+/// Whether a word holds an instruction.
 #[tactic(auto, unfolding(crate::specs::Words::lawful))]
 pub fn is_lawful(word: u32) -> bool
     ensures { result ≡ lawful word }
@@ -28,7 +29,7 @@ pub fn is_lawful(word: u32) -> bool
     Instruction::decode(word).is_ok()
 }
 
-// One word at its place.
+/// One word at its place.
 pub fn check_word(place: usize, word: u32) -> Result<(), WordFault>
     ensures { told of_word result ≡ word_checked place word }
 {
@@ -39,7 +40,7 @@ pub fn check_word(place: usize, word: u32) -> Result<(), WordFault>
     }
 }
 
-// Each word in turn, up to the first that holds no instruction.
+/// Each word in turn, up to the first that holds no instruction.
 #[tactic(auto, using(crate::proofs::Programs::checked_lawful, crate::proofs::Programs::checked_unlawful))]
 pub fn check_words(words: &[u32]) -> Result<(), WordFault>
     ensures answer { told of_word result ≡ checked words.now }

@@ -1,6 +1,7 @@
 // A register's number, from 0 to 15.
 ghost use Rattle.std.specs.Prelude.{◌≡◌, ◌<◌};
 
+/// One of the sixteen registers, by its number.
 // The bound is a ghost field and not a model's: with a model inside it an instruction, which is `Copy`, could not be used twice.
 #[derive(Clone, Copy, PartialEq, Eq, Debug)]
 pub struct Register {
@@ -11,18 +12,15 @@ pub struct Register {
 impl Register {
     ghost use Rattle.isa.specs.Registers.{register_at, numbered};
 
-    // The register with a number, or none above 15.
+    /// The register with a number, or none above 15.
+    // A function and no `TryFrom`, since there is nothing to say of a number that names none, as of std's `char::from_digit`.
     pub fn new(number: u32) -> Option<Register>
         ensures { result ≡ numbered number }
     {
-        if number < 16 {
-            Some(Register::of_low_bits(number))
-        } else {
-            None
-        }
+        (number < 16).then(|| Register::of_low_bits(number))
     }
 
-    // The register that the four lowest bits name.
+    /// The register that the four lowest bits name.
     pub fn of_low_bits(bits: u32) -> Register
         ensures { result ≡ register_at bits }
     {
@@ -31,6 +29,7 @@ impl Register {
         }
     }
 
+    /// Its number.
     pub fn number(self) -> u8
         ensures value { result ≡ self.number }
         ensures bound { result < 16 }

@@ -1,5 +1,6 @@
 // The lines of a report.
 // They are put together part by part: `write!` promises its bytes only where it succeeds, and no contract of std says that it does.
+// Each is written out: a function of names and numbers for both would take two lines off and put a contract and a lemma on.
 #![tactic(auto, using(crate::proofs::Clips::lines))]
 
 ghost use Rattle.std.specs.Prelude.{◌≡◌};
@@ -7,7 +8,7 @@ ghost use Rattle.listing.specs.Lines.{refusal_line, opened_line};
 
 use crate::text::Text;
 
-// The line of an image that does not open: the refusal's number, and the block or place that it names.
+/// The line of an image that does not open: the refusal's number, and the block or place that it names.
 pub fn refusal(number: u32, place: usize) -> Text
     ensures { result ≡ refusal_line number place }
 {
@@ -20,7 +21,7 @@ pub fn refusal(number: u32, place: usize) -> Text
     text
 }
 
-// The line of an image that opens: its program's length, its data's size and its depth.
+/// The line of an image that opens: its program's length, its data's size and its depth.
 pub fn opened(program_len: usize, data_size: usize, depth: u32) -> Text
     ensures { result ≡ opened_line program_len data_size depth }
 {

@@ -6,6 +6,7 @@ use arrayvec::ArrayVec;
 use itoa::Buffer;
 use std::marker::Model;
 
+/// Bytes to be printed, at most 512.
 #[derive(Drop)]
 pub struct Text {
     bytes: ArrayVec<u8, 512>,
@@ -20,6 +21,7 @@ impl Model for Text {
 }
 
 impl Text {
+    /// No bytes yet.
     pub fn new() -> Text
         ensures { result ≡ [] }
     {
@@ -28,12 +30,14 @@ impl Text {
         }
     }
 
+    /// One byte more.
     pub fn push(&mut self, byte: u8)
         ensures { self.new ≡ clipped (self.old ++ byte ∷ []) }
     {
         self.push_all(&[byte]);
     }
 
+    /// More bytes.
     #[tactic(auto, using(std::proofs::lemmas::Grind::common_steps, crate::proofs::Clips::clipped_part))]
     pub fn push_all(&mut self, bytes: &[u8])
         ensures { self.new ≡ clipped (self.old ++ bytes.now) }
@@ -42,13 +46,14 @@ impl Text {
         let _ = self.bytes.try_extend_from_slice(&bytes[..fits]);
     }
 
-    // A number in decimal.
+    /// A number in decimal.
     pub fn push_number(&mut self, number: usize)
         ensures { self.new ≡ clipped (self.old ++ decimal number) }
     {
         self.push_all(Buffer::new().format(number).as_bytes());
     }
 
+    /// The bytes.
     pub fn as_bytes(&self) -> &[u8]
         ensures value { result.now ≡ self.now }
         ensures fits { length result.now ≤ 512 }

@@ -3,7 +3,7 @@ ghost use Rattle.memory.specs.Refusals.{of_no_word};
 
 use refusal::Refusal;
 
-// The address is not below the memory's size.
+/// The address is not below the memory's size.
 #[derive(Clone, Copy, PartialEq, Eq, Debug)]
 pub struct NoWord;
 

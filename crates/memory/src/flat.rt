@@ -6,14 +6,17 @@ ghost use Rattle.memory.specs.Flats.{first_words, words_beyond, at_most_4096};
 use crate::fault::NoWord;
 use crate::meaning::{DataMemory, replace};
 
+/// The most words that a memory has.
 pub const LARGEST: usize = 4096;
 
+/// A memory over the caller's words.
 #[derive(Drop)]
 pub struct FlatMemory<'a> {
     words: &'a mut [u32],
 }
 
 impl<'a> FlatMemory<'a> {
+    /// A memory over these words.
     pub fn new(words: &'a mut [u32]) -> FlatMemory<'a>
         ensures { result.words ≡ words.entry }
     {
@@ -46,7 +49,7 @@ impl<'a> DataMemory for FlatMemory<'a> {
     }
 }
 
-// Replaces one of the caller's words, and answers the one that stood there.
+/// Replaces one of the caller's words, and answers the one that stood there.
 pub fn replace_in(words: &mut [u32], address: u32, word: u32) -> Result<u32, NoWord>
     ensures { ReplacesWord first_words words_beyond words.old words.new address word result }
 {

@@ -4,6 +4,7 @@ ghost use Rattle.memory.specs.Words.{ReadsWord, WritesWord, ReplacesWord};
 
 use crate::fault::NoWord;
 
+/// A data memory, by the words that it means.
 pub trait DataMemory {
     // the words that it means
     ghost words: { Self → List ℕ };
@@ -13,19 +14,20 @@ pub trait DataMemory {
 
     ghost frame: { Self → Frame };
 
-    // The word at an address. The memory's words stay, but not always its inside: a cache takes the word into a line.
+    /// The word at an address. The memory's words stay, but not always its inside: a cache takes the word into a line.
     fn read(&mut self, address: u32) -> Result<u32, NoWord>
         ensures { ReadsWord words frame self.old self.new address result };
 
-    // Another word at an address.
+    /// Puts another word at an address.
+    // Two arguments here and above, and no struct, which each body would take apart again.
     fn write(&mut self, address: u32, word: u32) -> Result<(), NoWord>
         ensures { WritesWord words frame self.old self.new address word result };
 
-    // How many words there are.
+    /// How many words there are.
     fn size(&self) -> u32
         ensures { result ≡ length (words self.now) };
 
-    // Refuses an address that has no word.
+    /// Refuses an address that has no word.
     fn check_address(&self, address: u32) -> Result<(), NoWord>
         ensures inside { OnOk result (address < length (words self.now)) }
         ensures outside { OnErr result (length (words self.now) ≤ address) }
@@ -37,10 +39,11 @@ pub trait DataMemory {
         }
     }
 
+    // the law that a memory has at most 4,096 words
     ghost few: { (m : Self) → length (words m) ≤ 4096 };
 }
 
-// Puts a word at an address, and answers the one that stood there.
+/// Puts a word at an address, and answers the one that stood there.
 pub fn replace<M: DataMemory>(memory: &mut M, address: u32, word: u32) -> Result<u32, NoWord>
     ensures replaced { ReplacesWord M.words M.frame memory.old memory.new address word result }
     ensures refused { length (M.words memory.old) ≤ address → memory.new ≡ memory.old }

@@ -112,7 +112,7 @@ fn words_replaced_at_every_layer(rt: HostRuntime) -> Result<(), Fail> {
     assert_eq!(rt; replace_data_word(&mut bytes, 127, 12), Err(NoWord));
     let first = word(&bytes, 2 * 128 + 1);
     assert_eq!(rt; (first, word(&bytes, 3 * 128 + 1)), (11, 10));
-    let image = open(&bytes).map_err(|_| Fail::new("refused"))?;
+    let image = open(&bytes)?;
     assert_eq!(rt; image.data_word(0), Some(11));
     assert_eq!(rt; image.data_word(1), Some(5));
     assert_eq!(rt; image.data_word(126), Some(10));

@@ -15,7 +15,7 @@ fn line_number(address: u32) -> usize
 }
 
 impl<'a, M: DataMemory> Cache<'a, M> {
-    // A cache whose lines are empty.
+    /// A cache whose lines are empty.
     #[tactic(auto, using(crate::proofs::Lines::over_empty))]
     pub fn new(below: &'a mut M) -> Cache<'a, M>
         ensures below { result.below ≡ below.entry }
@@ -28,7 +28,7 @@ impl<'a, M: DataMemory> Cache<'a, M> {
         }
     }
 
-    // What the line of an address holds.
+    /// What the line of an address holds.
     pub fn line(&self, address: u32) -> Option<Line>
         ensures { result ≡ line_of self.now.lines address }
     {
@@ -73,7 +73,7 @@ impl<'a, M: DataMemory> Cache<'a, M> {
         }
     }
 
-    // Writes all held words down, and keeps the lines.
+    /// Writes all held words down, and keeps the lines.
     pub fn flush(&mut self)
         ensures down { WritesDown M.words M.frame self.old self.new (words_of M.words self.old) }
         ensures kept { words_of M.words self.new ≡ words_of M.words self.old }
