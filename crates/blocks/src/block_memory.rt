@@ -7,7 +7,7 @@ ghost use Rattle.blocks.specs.Layout.{Checked};
 #[derive(Drop)]
 pub struct BlockMemory<'a> {
     bytes: &'a mut [u8],
-    // the first block of the data words, and how many there are: two fields, since its definitions ask for the one or the other
+    // the first block of the data words, and how many there are: not one range, since most of what is said here is of one of them
     first: usize,
     size: u32,
     ghost few: { size ≤ 4096 },

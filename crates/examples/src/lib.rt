@@ -3,6 +3,7 @@
 
 ghost use Rattle.examples.specs.Examples.{Examples};
 
+/// Carries the worked examples in its contract.
 pub fn examples_stand()
     ensures { Examples }
 {}

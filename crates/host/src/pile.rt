@@ -8,6 +8,7 @@ use cache::through::replace_through;
 use memory::fault::NoWord;
 
 /// Puts a word at a data address of the image, through a cache that is flushed, and answers the one that stood there.
+// `replace_in_image` does it without the cache, and says there why the two are apart.
 pub fn replace_data_word(bytes: &mut [u8], address: u32, word: u32) -> Result<u32, NoWord>
     ensures { Replaced bytes.old bytes.new address word (told of_no_word result) }
 {

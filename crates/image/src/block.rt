@@ -13,8 +13,8 @@ pub struct BlockFault {
     pub block: usize,
 }
 
-// The sum over i below the count of (2 i + 1) times word i, as a word. Its clause follows the chain; what it comes to is the
-// clause of `block_check`.
+// The sum over i below the count of (2 i + 1) times word i, as a word. The clause follows the `fold` step by step; what that
+// comes to is the clause of `block_check`.
 fn weighted_sum(words: &[u8], count: u32) -> u32
     requires few { count < 128 }
     requires within { 4 * count ≤ length words.now }

@@ -20,6 +20,7 @@ pub enum ImageFault {
     Program(ProgramFault),
 }
 
+// written out, as the next one is, since a derived `From` says nothing of what it makes
 impl From<BlockFault> for ImageFault {
     ghost from_gives = { λ b i. i ≡ Block b };
 

@@ -37,7 +37,7 @@ fn check_counts(bytes: &[u8]) -> Result<(), ImageFault>
 }
 
 // Each word of the program in turn, up to the first that holds no instruction. It is no call of `check_words`, which takes words
-// that lie one after another.
+// that lie one after another; one function for both would take an iterator, and ask that it end.
 fn check_program(bytes: &[u8]) -> Result<(), ProgramFault>
     requires long { RightLength bytes.now }
     requires counts { RightCounts bytes.now }

@@ -1,4 +1,4 @@
-// Big-endian words in bytes. Each of the two says for itself that the bytes are there: they have no more in common.
+// Big-endian words in bytes. Reading one and writing one ask that its bytes be there, and have no more in common.
 ghost use Rattle.std.specs.Prelude.{◌≡◌, ◌+◌, ◌*◌, ◌≤◌, length};
 ghost use Rattle.image.specs.Words.{word_at, put_word};
 

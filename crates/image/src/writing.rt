@@ -25,6 +25,7 @@ pub enum WriteFault {
     NoSpace,
 }
 
+// written out, as the next one is, since a derived `From` says nothing of what it makes
 impl From<ProgramFault> for WriteFault {
     ghost from_gives = { λ p w. w ≡ write_fault p };
 

@@ -27,6 +27,7 @@ pub enum ProgramFault {
     Word(WordFault),
 }
 
+// written out, since a derived `From` says nothing of what it makes
 impl From<WordFault> for ProgramFault {
     ghost from_gives = { λ w p. p ≡ Word w };
 

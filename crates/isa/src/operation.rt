@@ -17,6 +17,7 @@ pub enum Operation {
 
 impl Operation {
     /// The operation that the three lowest bits name.
+    // It is not `From`, since it drops bits.
     pub fn of_low_bits(bits: u32) -> Operation
         ensures { result ≡ operation_at bits }
     {

@@ -2,7 +2,7 @@
 ghost use Rattle.std.specs.Prelude.{◌≡◌, ◌<◌};
 
 /// One of the sixteen registers, by its number.
-// The bound is a ghost field and not a model's: with a model inside it an instruction, which is `Copy`, could not be used twice.
+// The bound is a ghost field and not part of a model: with a model inside it an instruction, which is `Copy`, could not be used twice.
 #[derive(Clone, Copy, PartialEq, Eq, Debug)]
 pub struct Register {
     number: u8,
@@ -13,7 +13,7 @@ impl Register {
     ghost use Rattle.isa.specs.Registers.{register_at, numbered};
 
     /// The register with a number, or none above 15.
-    // A function and no `TryFrom`, since there is nothing to say of a number that names none, as of std's `char::from_digit`.
+    // It is not `TryFrom`: there is nothing to say of a number that names none, as with std's `char::from_digit`.
     pub fn new(number: u32) -> Option<Register>
         ensures { result ≡ numbered number }
     {
@@ -21,6 +21,7 @@ impl Register {
     }
 
     /// The register that the four lowest bits name.
+    // It is not `From`, since it drops bits.
     pub fn of_low_bits(bits: u32) -> Register
         ensures { result ≡ register_at bits }
     {

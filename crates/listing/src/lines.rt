@@ -1,6 +1,6 @@
 // The lines of a report.
 // They are put together part by part: `write!` promises its bytes only where it succeeds, and no contract of std says that it does.
-// Each is written out: a function of names and numbers for both would take two lines off and put a contract and a lemma on.
+// Each is written out: a function of names and numbers for both would save two lines and cost a contract and a lemma.
 #![tactic(auto, using(crate::proofs::Clips::lines))]
 
 ghost use Rattle.std.specs.Prelude.{◌≡◌};

@@ -19,7 +19,7 @@ pub trait DataMemory {
         ensures { ReadsWord words frame self.old self.new address result };
 
     /// Puts another word at an address.
-    // Two arguments here and above, and no struct, which each body would take apart again.
+    // An address and a word are two arguments wherever they go together, since a struct would be taken apart in each body.
     fn write(&mut self, address: u32, word: u32) -> Result<(), NoWord>
         ensures { WritesWord words frame self.old self.new address word result };
 

@@ -10,12 +10,12 @@ pub trait Refusal {
     ghost declined: { Self → Declined };
 
     /// The number of the case, as it is printed.
-    // A number and no enum, since each crate has faults of its own and one numbering goes through all of them.
+    // It is a number, and not an enum: each crate has faults of its own, and one numbering goes through all of them.
     fn number(&self) -> u32
         ensures { result ≡ number_of (declined self.now) };
 
     /// The first figure, 0 where there is none.
-    // 0 and no `None`, since a figure is there to be printed, and 0 is what is printed for a case without one.
+    // It is 0, and not `None`: a figure is there to be printed, and 0 is what is printed for a case without one.
     fn figure(&self) -> usize
         ensures { result ≡ first_figure (declined self.now) };
 }

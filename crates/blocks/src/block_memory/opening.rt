@@ -25,7 +25,7 @@ fn data_range(bytes: &[u8]) -> DataRange
             first: image.data_block(),
             size: image.data_size() as u32,
         },
-        // a range of no words and no `None`, since a block memory stands over these bytes too
+        // a range without words, and not `None`: a block memory stands over these bytes too
         Err(_) => DataRange { first: 0, size: 0 },
     }
 }

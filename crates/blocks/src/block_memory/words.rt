@@ -7,8 +7,8 @@ ghost use Rattle.blocks.specs.Layout.{block_of, place_of, rewritten};
 use crate::block_memory::BlockMemory;
 use image::layout::{BLOCK_WORDS, CHECK, PAGE_WORDS};
 
-// The word with the number i. The image has the same two functions to itself, since no public call may ask that the
-// bytes be there.
+// The word with the number i. The image has the same two functions to itself: each asks that the bytes be there, so it cannot be
+// public.
 fn read_word(bytes: &[u8], i: usize) -> u32
     requires { 4 * i + 4 ≤ length bytes.now }
     ensures { result ≡ word_at bytes.now i }
@@ -48,7 +48,8 @@ fn rewrite(bytes: &mut [u8], block: usize, i: usize, word: u32)
     write_word(bytes, start + CHECK, check);
 }
 
-// The place of a data word in its block, after the block's number.
+// The place of a data word in its block, after the block's number. (The image's `place_from` says this and the block at once; it
+// asks that both be small, so it cannot be public either.)
 fn place_of(place: usize) -> usize
     ensures { result ≡ place_of place }
 {
