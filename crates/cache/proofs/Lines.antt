@@ -33,7 +33,7 @@ not_covered None a x e = refl
 not_covered (Some l) a x e = grind (arith, nat_tests)
 
 -- a line that yields: its own word, and those of other lines
-length_yielded : (l : Option Line) (a : ℕ) (ws : List ℕ) → length (yielded l a ws) ≡ length ws
+pub length_yielded : (l : Option Line) (a : ℕ) (ws : List ℕ) → length (yielded l a ws) ≡ length ws
 length_yielded None a ws = refl
 length_yielded (Some l) a ws = grind (arith, nat_tests, length-set)
 

@@ -1,4 +1,5 @@
 // Sixteen lines over a memory, each empty or holding an address and its word.
+ghost use Rattle.std.specs.Prelude.{◌≡◌, length};
 ghost use Rattle.cache.specs.Lines.{Placed};
 
 use crate::line::Line;
@@ -10,6 +11,8 @@ const LINES: usize = 16;
 pub struct Cache<'a, M> {
     below: &'a mut M,
     lines: [Option<Line>; LINES],
+    // known of every cache, also where a call has taken it since
+    ghost sized: { length lines ≡ 16 },
     ghost placed: { Placed lines },
 }
 

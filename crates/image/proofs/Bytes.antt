@@ -1,6 +1,8 @@
 -- What a word's bytes are after it is written, and what is read back.
-use Rattle.std.proofs.Common.{◌≡◌, ℕ, zero, suc, ◌+◌, ◌*◌, ◌/◌, ◌%◌, ◌^◌, ◌<◌, ◌≤◌, ◌≢◌, List, [], ◌∷◌, ◌++◌, length, get_or, take, drop, set, sym, refl, ap, ◌∙◌, add-zero, arith, length-set, get_or-set_other, get_or-set_same}
+use Rattle.std.proofs.Common.{◌≡◌, ℕ, zero, suc, ◌+◌, ◌-◌, ◌*◌, ◌/◌, ◌%◌, ◌^◌, ◌<◌, ◌≤◌, ◌≢◌, List, [], ◌∷◌, ◌++◌, length, get_or, take, drop, set, sym, refl, ap, ◌∙◌, add-zero, arith, length-set, get_or-set_other, get_or-set_same}
 use Rattle.std.proofs.Math.Seq.{sets, sets-eq}
+use Rattle.std.proofs.lemmas.Slice.{put_mid-paste}
+use borrow.Rule.Slice.PartMut.{put_mid}
 use Rattle.image.specs.Words.{byte_of, word_at, put_word}
 
 -- a byte of the word that was written
@@ -85,3 +87,9 @@ paste_word s i w h = sym (sets-eq (bytes_of w) s (4 * i) h) ∙ put_sets
         let b : 4 * i + 2 ≡ suc (suc (4 * i)) = omega arith in
         let c : 4 * i + 3 ≡ suc (suc (suc (4 * i))) = omega arith in
         rw (a, b, c)
+
+-- a word's place after four bytes were copied there, whatever way the code has them, so long as they are the word's
+pub copied_word : (s ys : List ℕ) (i w : ℕ) → ys ≡ w / 16777216 % 256 ∷ w / 65536 % 256 ∷ w / 256 % 256 ∷ w % 256 ∷ [] → 4 * i + 4 ≤ length s
+    → put_mid (4 * i) (4 * i + 4 - 4 * i) s ys ≡ put_word s i w
+copied_word s ys i w e h =
+    put_mid-paste (4 * i) (4 * i + 4 - 4 * i) s ys (bytes_of w) 4 (e ∙ be_bytes w) (omega arith) refl ∙ paste_word s i w h

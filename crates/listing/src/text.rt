@@ -31,10 +31,11 @@ impl Text {
     }
 
     /// One byte more.
+    #[tactic(auto, using(crate::proofs::Clips::one_more))]
     pub fn push(&mut self, byte: u8)
         ensures { self.new ≡ clipped (self.old ++ byte ∷ []) }
     {
-        self.push_all(&[byte]);
+        let _ = self.bytes.try_push(byte);
     }
 
     /// More bytes.
@@ -47,10 +48,16 @@ impl Text {
     }
 
     /// A number in decimal.
+    #[tactic(auto, using(std::proofs::lemmas::Fmt::decimal_digit))]
     pub fn push_number(&mut self, number: usize)
         ensures { self.new ≡ clipped (self.old ++ decimal number) }
     {
-        self.push_all(Buffer::new().format(number).as_bytes());
+        // one digit needs no buffer
+        if number < 10 {
+            self.push(b'0' + number as u8);
+        } else {
+            self.push_all(Buffer::new().format(number).as_bytes());
+        }
     }
 
     /// The bytes.

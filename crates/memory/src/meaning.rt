@@ -9,6 +9,9 @@ pub trait DataMemory {
     // the words that it means
     ghost words: { Self → List ℕ };
 
+    // there are at most 4,096; it stands above the calls, so that clauses can name it
+    ghost few: { (m : Self) → length (words m) ≤ 4096 };
+
     // what it holds beside its words and no call changes: the loans, by their ghost names, and what else was lent
     ghost Frame: { Type 0 };
 
@@ -38,9 +41,6 @@ pub trait DataMemory {
             Err(NoWord)
         }
     }
-
-    // the law that a memory has at most 4,096 words
-    ghost few: { (m : Self) → length (words m) ≤ 4096 };
 }
 
 /// Puts a word at an address, and answers the one that stood there.

@@ -18,6 +18,7 @@ fn read_word(bytes: &[u8], i: usize) -> u32
 }
 
 // Another word there.
+#[tactic(auto, using(image::proofs::Bytes::copied_word))]
 fn write_word(bytes: &mut [u8], i: usize, word: u32)
     requires { 4 * i + 4 ≤ length bytes.old }
     ensures { bytes.new ≡ put_word bytes.old i word }
