@@ -11,7 +11,7 @@ const LINES: usize = 16;
 pub struct Cache<'a, M> {
     below: &'a mut M,
     lines: [Option<Line>; LINES],
-    // known of every cache, also where a call has taken it since
+    // beside the array's type, so that proofs of other crates know it too
     ghost sized: { length lines ≡ 16 },
     ghost placed: { Placed lines },
 }
